@@ -1,0 +1,10 @@
+mod Gathered
+mod Holds
+mod Lowest
+mod Opening
+mod Ordered
+mod Reopened
+mod Tests
+mod Walks
+mod Within
+mod Written

@@ -1,0 +1,5 @@
+pub mod Entries
+pub mod Opened
+pub mod Promise
+pub mod Ranges
+pub mod Statement

@@ -1,0 +1,94 @@
+use Prim.Native.Nat.{ℕ, zero, suc, _+_, _-_}
+use mathlib.Core.Bool.{Bool, true, false, cond, not, _&&_}
+use mathlib.Core.List.{List, map}
+use lib.Dec.{ltb}
+use lib.ListN.{length, getD}
+use Rattle.std.specs.Iters.{counting}
+use Rattle.std.specs.declared.option.Option.{Option}
+use Rattle.std.specs.declared.option.Option.the-variants.{Some, None}
+use Rattle.std.specs.declared.result.Result.{Result}
+use Rattle.std.specs.declared.result.Result.the-variants.{Ok, Err}
+use Rattle.problem.specs.declared.dependency.Dependency.{Dependency}
+use Rattle.problem.specs.declared.exclusion.Exclusion.{Exclusion}
+use Rattle.problem.specs.declared.task.Task.{Task}
+use Rattle.problem.specs.declared.window.Window.{Window}
+use Rattle.problem.specs.Limits.{Model}
+use Rattle.problem_file.specs.declared.counts.Counts.{Counts}
+use Rattle.problem_file.specs.declared.fault.FileFault.{FileFault}
+use Rattle.problem_file.specs.declared.layout.Section.the-variants.{Tasks, Windows, Dependencies, Exclusions}
+use Rattle.problem_file.specs.Header.{headerOf}
+use Rattle.problem_file.specs.Layout.{count, first, total}
+use Rattle.problem_file.specs.Records.{Shown, taskOf, windowOf, dependencyOf, exclusionOf, recordBytes, recordIn}
+use Rattle.opening.specs.declared.fault.Fault.{Fault}
+use Rattle.opening.specs.declared.fault.Fault.the-variants.{File, Problem}
+use Rattle.opening.specs.declared.fault.ProblemFault.the-variants.{Field, Order}
+use Rattle.opening.specs.Ranges.{inRange, follows}
+
+-- what the records of each kind state: the tasks are records 0, 1, 2 and on, the windows follow them, and so on
+abbrev pub taskIn : Counts → List ℕ → ℕ → Task
+taskIn c file i = taskOf (c .dimensions .processors) (recordBytes c file Tasks i)
+
+abbrev pub windowIn : Counts → List ℕ → ℕ → Window
+windowIn c file i = windowOf (recordBytes c file Windows i)
+
+abbrev pub dependencyIn : Counts → List ℕ → ℕ → Dependency
+dependencyIn c file i = dependencyOf (recordBytes c file Dependencies i)
+
+abbrev pub exclusionIn : Counts → List ℕ → ℕ → Exclusion
+exclusionIn c file i = exclusionOf (recordBytes c file Exclusions i)
+
+-- the problem that the file states
+unfoldable pub stated : Counts → List ℕ → Model
+stated c file = record {
+  dimensions = c .dimensions;
+  tasks = map (taskIn c file) (counting (first c Tasks) (count c Tasks));
+  windows = map (windowIn c file) (counting (first c Windows) (count c Windows));
+  dependencies = map (dependencyIn c file) (counting (first c Dependencies) (count c Dependencies));
+  exclusions = map (exclusionIn c file) (counting (first c Exclusions) (count c Exclusions));
+}
+
+-- the first of two answers that is there
+abbrev pub orElse : {X : Type 0} → Option X → Option X → Option X
+orElse None y = y
+orElse (Some x) y = Some x
+
+-- the lowest number below `n` that passes the test
+unfoldable pub lowest : (ℕ → Bool) → ℕ → Option ℕ
+lowest test zero = None
+lowest test (suc n) = orElse (lowest test n) (cond (test n) (Some n) None)
+
+-- a record that is there has a field outside its range
+abbrev pub outside : Counts → Option Shown → Bool
+outside c None = false
+outside c (Some x) = not (inRange (c .dimensions) x)
+
+-- record `i` has a field outside its range
+unfoldable pub misfit : Counts → List ℕ → ℕ → Bool
+misfit c file i = outside c (recordIn c file i)
+
+-- stands for no window where a list has none
+abbrev pub noWindow : Window
+noWindow = record { processor = 0; partition = 0; begin = 0; end = 0 }
+
+-- window `k` of the list, not the first, may not stand after the one before it
+unfoldable pub misplaced : List Window → ℕ → Bool
+misplaced ws k = ltb 0 k && not (follows (getD ws (k - 1) noWindow) (getD ws k noWindow))
+
+-- refused by the lowest record with a field outside its range; if there is none, by the lowest misplaced window, counted through all sections; else granted
+abbrev pub judged : Counts → Model → Option ℕ → Option ℕ → Result Model Fault
+judged c m (Some i) order = Err (Problem (Field i))
+judged c m None (Some k) = Err (Problem (Order (first c Windows + k)))
+judged c m None None = Ok m
+
+-- the outcome for the problem that the file states, once the header is right
+abbrev pub recordsOpened : List ℕ → Counts → Model → Result Model Fault
+recordsOpened file c m = judged c m (lowest (misfit c file) (total c)) (lowest (misplaced (m .windows)) (length (m .windows)))
+
+-- the outcome after the checks of the header
+abbrev pub headerOpened : List ℕ → Result Counts FileFault → Result Model Fault
+headerOpened file (Err fault) = Err (File fault)
+headerOpened file (Ok c) = recordsOpened file c (stated c file)
+
+-- the one outcome of opening a file: its problem, or its first fault
+abbrev pub opened : List ℕ → Result Model Fault
+opened file = headerOpened file (headerOf file)

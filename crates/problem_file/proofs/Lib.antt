@@ -1,0 +1,4 @@
+pub mod Coded
+pub mod Headers
+pub mod Places
+pub mod Shows

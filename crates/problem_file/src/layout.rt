@@ -1,0 +1,87 @@
+ghost use Rattle.problem_file.specs.Layout.{fileEnd, first, sectionOf, size, start, total};
+ghost use mathlib.Core.Path.{_≡_};
+use crate::header::Header;
+
+/// The four lists of records, in the file's order.
+#[derive(Clone, Copy)]
+pub enum Section {
+    Tasks,
+    Windows,
+    Dependencies,
+    Exclusions,
+}
+
+impl Header {
+    /// The number of the section's first record, counted from 0 through all sections.
+    pub fn first(&self, section: Section) -> usize
+        ensures { λ r. ⌜ r ≡ first (now (self .entry) .counts) section ⌝ }
+    {
+        let counts = self.counts;
+        let windows = counts.dimensions.tasks as usize;
+        let dependencies = windows + counts.windows as usize;
+        match section {
+            Section::Tasks => 0,
+            Section::Windows => windows,
+            Section::Dependencies => dependencies,
+            Section::Exclusions => dependencies + counts.dependencies as usize,
+        }
+    }
+
+    /// How many records there are.
+    pub fn records(&self) -> usize
+        ensures { λ r. ⌜ r ≡ total (now (self .entry) .counts) ⌝ }
+    {
+        self.first(Section::Exclusions) + self.counts.exclusions as usize
+    }
+
+    /// The section that record `index` stands in, or nothing past the last record.
+    pub fn section(&self, index: usize) -> Option<Section>
+        ensures { λ r. ⌜ r ≡ sectionOf (now (self .entry) .counts) index ⌝ }
+    {
+        if index < self.first(Section::Windows) {
+            Some(Section::Tasks)
+        } else if index < self.first(Section::Dependencies) {
+            Some(Section::Windows)
+        } else if index < self.first(Section::Exclusions) {
+            Some(Section::Dependencies)
+        } else if index < self.records() {
+            Some(Section::Exclusions)
+        } else {
+            None
+        }
+    }
+
+    /// How many bytes a record of the section has.
+    pub fn size(&self, section: Section) -> usize
+        ensures { λ r. ⌜ r ≡ size (now (self .entry) .counts) section ⌝ }
+    {
+        match section {
+            Section::Tasks => 16 + 4 * self.counts.dimensions.processors as usize,
+            Section::Windows | Section::Dependencies => 16,
+            Section::Exclusions => 12,
+        }
+    }
+
+    /// The byte at which the section begins: the end of what precedes it.
+    pub fn start(&self, section: Section) -> usize
+        ensures { λ r. ⌜ r ≡ start (now (self .entry) .counts) section ⌝ }
+    {
+        let counts = self.counts;
+        let dimensions = counts.dimensions;
+        let windows = 48 + (16 + 4 * dimensions.processors as usize) * dimensions.tasks as usize;
+        let dependencies = windows + 16 * counts.windows as usize;
+        match section {
+            Section::Tasks => 48,
+            Section::Windows => windows,
+            Section::Dependencies => dependencies,
+            Section::Exclusions => dependencies + 16 * counts.dependencies as usize,
+        }
+    }
+
+    /// The byte at which the last section ends.
+    pub fn file_end(&self) -> usize
+        ensures { λ r. ⌜ r ≡ fileEnd (now (self .entry) .counts) ⌝ }
+    {
+        self.start(Section::Exclusions) + 12 * self.counts.exclusions as usize
+    }
+}

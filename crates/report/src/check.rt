@@ -1,0 +1,34 @@
+ghost use Rattle.opening.specs.Opened.{opened};
+ghost use Rattle.report.specs.Line.{lineOf};
+ghost use Rattle.report.specs.Check.{verdictOf};
+ghost use Rattle.std.specs.Of.String.{string-bytes};
+ghost use Rattle.std.specs.Vec.{made};
+ghost use mathlib.Core.Path.{_≡_};
+use crate::refusal::RefusalFromFault;
+use crate::verdict::Verdict;
+use crate::verdict::line;
+use opening::fault::OpenError;
+use opening::open::open;
+use std::alloc::AllocError;
+use std::alloc::Global;
+
+/// The verdict on the bytes of a problem file.
+pub fn verdict(heap: Global, problem: &[u8]) -> Result<Verdict, AllocError>
+    ensures { λ r. ⌜ made r (λ v. v ≡ verdictOf (opened (now (problem .entry)))) ⌝ }
+{
+    match open(heap, problem) {
+        Ok(problem) => Ok(Verdict::Accepted {
+            rows: 0,
+            tasks: problem.tasks.len(),
+        }),
+        Err(OpenError::Refused(fault)) => Ok(Verdict::Refused(fault.into())),
+        Err(OpenError::Memory) => Err(AllocError),
+    }
+}
+
+/// The line that framecheck prints for the bytes of a problem file.
+pub fn check(heap: Global, problem: &[u8]) -> Result<String, AllocError>
+    ensures { λ r. ⌜ made r (λ text. string-bytes text ≡ lineOf (verdictOf (opened (now (problem .entry))))) ⌝ }
+{
+    line(heap, &verdict(heap, problem)?)
+}

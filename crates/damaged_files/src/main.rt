@@ -2,7 +2,7 @@
 mod cases;
 
 use cases::Case;
-use report::check::check;
+use report::check;
 use std::alloc::AllocError;
 use std::alloc::Global;
 use std::error::AnyError;
@@ -46,7 +46,7 @@ fn encode(heap: Global, words: &[u32]) -> Result<Vec<u8>, AllocError> {
 fn single(rt: &LibcRuntime, case: &Case) -> Result<(), AnyError> {
     let mut words = good(rt.alloc())?;
     damage(&mut words, case);
-    let line = check(rt.alloc(), &encode(rt.alloc(), &words)?)?;
+    let line = check::line(rt.alloc(), &encode(rt.alloc(), &words)?)?;
     let what = case.0;
     println!(rt, "{what}: {line}")?;
     Ok(())
@@ -57,7 +57,7 @@ fn double(rt: &LibcRuntime, first: &Case, second: &Case) -> Result<(), AnyError>
     let mut words = good(rt.alloc())?;
     damage(&mut words, first);
     damage(&mut words, second);
-    let line = check(rt.alloc(), &encode(rt.alloc(), &words)?)?;
+    let line = check::line(rt.alloc(), &encode(rt.alloc(), &words)?)?;
     let one = first.0;
     let other = second.0;
     println!(rt, "{one}, {other}: {line}")?;
@@ -70,7 +70,7 @@ fn truncated(rt: &LibcRuntime) -> Result<(), AnyError> {
     words.extend_from_slice(&cases::SMALLEST_TASK)?;
     let bytes = encode(rt.alloc(), &words)?;
     for length in 0..bytes.len() + 1 {
-        let line = check(rt.alloc(), &bytes[0..length])?;
+        let line = check::line(rt.alloc(), &bytes[0..length])?;
         println!(rt, "{length} bytes of the smallest file: {line}")?;
     }
     Ok(())
@@ -99,7 +99,7 @@ fn largest(heap: Global) -> Result<Vec<u32>, AllocError> {
 fn whole(rt: &LibcRuntime) -> Result<(), AnyError> {
     let bytes = encode(rt.alloc(), &largest(rt.alloc())?)?;
     let length = bytes.len();
-    let line = check(rt.alloc(), &bytes)?;
+    let line = check::line(rt.alloc(), &bytes)?;
     println!(rt, "the largest file, {length} bytes: {line}")?;
     Ok(())
 }
@@ -110,7 +110,7 @@ fn lengthened(rt: &LibcRuntime, length: usize) -> Result<(), AnyError> {
     for _ in bytes.len()..length {
         bytes.push(0)?;
     }
-    let line = check(rt.alloc(), &bytes)?;
+    let line = check::line(rt.alloc(), &bytes)?;
     println!(rt, "lengthened to {length} bytes: {line}")?;
     Ok(())
 }

@@ -1,5 +1,5 @@
 //! Checks the files of a flight and prints one line on them.
-use report::check::check;
+use report::check;
 use std::error::AnyError;
 use std::fs::File;
 use std::io;
@@ -27,7 +27,7 @@ fn first_bytes(rt: &LibcRuntime, path: &str) -> io::Result<Vec<u8>> {
 
 fn run(rt: &LibcRuntime) -> Result<(), AnyError> {
     let problem = first_bytes(rt, "problem.bin")?;
-    rt.println(check(rt.alloc(), &problem)?)?;
+    rt.println(check::line(rt.alloc(), &problem)?)?;
     Ok(())
 }
 

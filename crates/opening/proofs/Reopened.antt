@@ -11,6 +11,7 @@ use Rattle.std.proofs.shelf.Elements.{all-getD, all-weaker}
 use Rattle.std.proofs.shelf.Lists.{drop-drop, drop-at, same-lists}
 use Rattle.std.proofs.shelf.Tests.{le-leb}
 use Rattle.std.specs.Iters.{counting}
+use Rattle.std.specs.Options.{mapped, orOther}
 use Rattle.std.specs.declared.option.Option.the-variants.{Some, None}
 use Rattle.std.specs.declared.result.Result.the-variants.{Ok, Err}
 use Rattle.std.specs.shelf.Lists.{All, joined}
@@ -32,7 +33,8 @@ use Rattle.problem_file.specs.Encoding.{taskWords, windowWords, dependencyWords
 use Rattle.problem_file.specs.Header.{headerOf}
 use Rattle.problem_file.specs.Layout.{CountsFit, count, first, size, start, total, fileEnd}
 use Rattle.problem_file.specs.Records.{Shown, taskOf, windowOf, dependencyOf, exclusionOf, reading, recordBytes}
-use Rattle.opening.specs.Opened.{lowest, misfit, outside, misplaced, noWindow, stated, judged, recordsOpened, headerOpened, opened, taskIn, windowIn, dependencyIn, exclusionIn}
+use Rattle.opening.specs.declared.fault.ProblemFault.the-variants.{Field, Order}
+use Rattle.opening.specs.Opened.{lowest, misfit, outside, misplaced, noWindow, stated, orderFault, recordsFault, judged, headerOpened, opened, taskIn, windowIn, dependencyIn, exclusionIn}
 use Rattle.opening.specs.Ranges.{Fits, inRange}
 use Rattle.opening.proofs.Lowest.{lowest-none-from}
 use Rattle.opening.proofs.Ordered.{misplaced-is}
@@ -303,8 +305,7 @@ pub reopened : (m : Model) → Within m → opened (encode m) ≡ Ok m
 reopened m within =
     let c = countsOf m in
     let file = encode m in
-    let is = stated-is m within in
     ap (headerOpened file) (header-from file c (encode-formed m within))
-    ∙ ap (recordsOpened file c) is
-    ∙ ap (λ o. judged c m o (lowest (misplaced (m .windows)) (length (m .windows)))) (none-misfits m within)
-    ∙ ap (judged c m None) (none-misplaced (m .windows) (within .order))
+    ∙ ap (λ x. judged x (recordsFault c file (x .windows))) (stated-is m within)
+    ∙ ap (λ o. judged m (orOther (mapped Field o) (orderFault c (m .windows)))) (none-misfits m within)
+    ∙ ap (λ o. judged m (mapped (λ k. Order (first c Windows + k)) o)) (none-misplaced (m .windows) (within .order))

@@ -7,6 +7,7 @@ use lib.ListN.{length, take, drop, length-drop}
 use native.Mathlib.Omega.{arith}
 use Rattle.std.proofs.shelf.Lists.{length-take-le}
 use Rattle.std.proofs.shelf.Ways.{same-from-decides}
+use Rattle.std.specs.Options.{mapped}
 use Rattle.std.specs.Orderings.{Decides}
 use Rattle.std.specs.declared.option.Option.{Option}
 use Rattle.std.specs.declared.option.Option.the-variants.{Some, None}
@@ -17,7 +18,8 @@ use Rattle.problem_file.specs.declared.layout.Section.{Section}
 use Rattle.problem_file.specs.declared.layout.Section.the-variants.{Tasks, Windows, Dependencies, Exclusions}
 use Rattle.problem_file.specs.Layout.{total, size, sectionOf, fileEnd}
 use Rattle.problem_file.specs.Records.{Shown, reading, recordAt, recordBytes, recordIn}
-use Rattle.opening.specs.Opened.{lowest, misfit, outside}
+use Rattle.opening.specs.declared.fault.ProblemFault.the-variants.{Field}
+use Rattle.opening.specs.Opened.{lowest, misfit, outside, fieldFault}
 use Rattle.opening.specs.Ranges.{Fits, inRange}
 use Rattle.opening.proofs.Lowest.{lowest-more, lowest-found}
 use Rattle.opening.proofs.Tests.{Sized, decides-shown}
@@ -68,14 +70,14 @@ walked-more c file at at′ in′ in″ i j x r w shows same-counts same-bytes n
     }
 
 -- the first record that is outside its range is the lowest
-pub walked-found : (c : Counts) (file : List ℕ) (at : Counts) (in′ : List ℕ) (i j : ℕ) (x : Shown) (r : Bool) → Walked c file at in′ i → Some x ≡ recordIn at in′ i → j ≡ i + 1 → Decides r (Fits (c .dimensions) x) → r ≡ false → Some (j - 1) ≡ lowest (misfit c file) (total c)
+pub walked-found : (c : Counts) (file : List ℕ) (at : Counts) (in′ : List ℕ) (i j : ℕ) (x : Shown) (r : Bool) → Walked c file at in′ i → Some x ≡ recordIn at in′ i → j ≡ i + 1 → Decides r (Fits (c .dimensions) x) → r ≡ false → Some (Field (j - 1)) ≡ fieldFault c file
 walked-found c file at in′ i j x r w shows next tested fails =
     let e = here c file at in′ i (Some x) w shows in
     let found = lowest-found (misfit c file) i (total c) (w .none) (misfit-is c file i x r e tested ∙ ap not fails) (shown-inside c file i x e) in
-    ap Some (omega arith) ∙ sym found
+    ap (λ k. Some (Field k)) (omega arith) ∙ ap (mapped Field) (sym found)
 
 -- a walk to the end finds none
-pub walked-all : (c : Counts) (file : List ℕ) (at : Counts) (in′ : List ℕ) (i : ℕ) → length file ≡ fileEnd c → Walked c file at in′ i → None ≡ recordIn at in′ i → None ≡ lowest (misfit c file) (total c)
+pub walked-all : (c : Counts) (file : List ℕ) (at : Counts) (in′ : List ℕ) (i : ℕ) → length file ≡ fileEnd c → Walked c file at in′ i → None ≡ recordIn at in′ i → None ≡ fieldFault c file
 walked-all c file at in′ i whole w shows =
     let all : i ≡ total c = omega (arith, w .bound, none-left c file i whole (here c file at in′ i None w shows)) in
-    sym (ap (lowest (misfit c file)) (sym all) ∙ w .none)
+    ap (mapped Field) (sym (ap (lowest (misfit c file)) (sym all) ∙ w .none))

@@ -4,6 +4,7 @@ use mathlib.Core.List.{List, map}
 use lib.Dec.{ltb}
 use lib.ListN.{length, getD}
 use Rattle.std.specs.Iters.{counting}
+use Rattle.std.specs.Options.{mapped, orOther}
 use Rattle.std.specs.declared.option.Option.{Option}
 use Rattle.std.specs.declared.option.Option.the-variants.{Some, None}
 use Rattle.std.specs.declared.result.Result.{Result}
@@ -21,6 +22,7 @@ use Rattle.problem_file.specs.Layout.{count, first, total}
 use Rattle.problem_file.specs.Records.{Shown, taskOf, windowOf, dependencyOf, exclusionOf, recordBytes, recordIn}
 use Rattle.opening.specs.declared.fault.Fault.{Fault}
 use Rattle.opening.specs.declared.fault.Fault.the-variants.{File, Problem}
+use Rattle.opening.specs.declared.fault.ProblemFault.{ProblemFault}
 use Rattle.opening.specs.declared.fault.ProblemFault.the-variants.{Field, Order}
 use Rattle.opening.specs.Ranges.{inRange, follows}
 
@@ -47,15 +49,10 @@ stated c file = record {
   exclusions = map (exclusionIn c file) (counting (first c Exclusions) (count c Exclusions));
 }
 
--- the first of two answers that is there
-abbrev pub orElse : {X : Type 0} → Option X → Option X → Option X
-orElse None y = y
-orElse (Some x) y = Some x
-
 -- the lowest number below `n` that passes the test
 unfoldable pub lowest : (ℕ → Bool) → ℕ → Option ℕ
 lowest test zero = None
-lowest test (suc n) = orElse (lowest test n) (cond (test n) (Some n) None)
+lowest test (suc n) = orOther (lowest test n) (cond (test n) (Some n) None)
 
 -- a record that is there has a field outside its range
 abbrev pub outside : Counts → Option Shown → Bool
@@ -74,20 +71,27 @@ noWindow = record { processor = 0; partition = 0; begin = 0; end = 0 }
 unfoldable pub misplaced : List Window → ℕ → Bool
 misplaced ws k = ltb 0 k && not (follows (getD ws (k - 1) noWindow) (getD ws k noWindow))
 
--- refused by the lowest record with a field outside its range; if there is none, by the lowest misplaced window, counted through all sections; else granted
-abbrev pub judged : Counts → Model → Option ℕ → Option ℕ → Result Model Fault
-judged c m (Some i) order = Err (Problem (Field i))
-judged c m None (Some k) = Err (Problem (Order (first c Windows + k)))
-judged c m None None = Ok m
+-- check 4: the lowest record with a field outside its range
+abbrev pub fieldFault : Counts → List ℕ → Option ProblemFault
+fieldFault c file = mapped Field (lowest (misfit c file) (total c))
 
--- the outcome for the problem that the file states, once the header is right
-abbrev pub recordsOpened : List ℕ → Counts → Model → Result Model Fault
-recordsOpened file c m = judged c m (lowest (misfit c file) (total c)) (lowest (misplaced (m .windows)) (length (m .windows)))
+-- check 5: the lowest window that may not stand after the one before it, counted through all sections
+abbrev pub orderFault : Counts → List Window → Option ProblemFault
+orderFault c ws = mapped (λ k. Order (first c Windows + k)) (lowest (misplaced ws) (length ws))
+
+-- the first fault of the records: check 5 counts only where check 4 finds nothing
+abbrev pub recordsFault : Counts → List ℕ → List Window → Option ProblemFault
+recordsFault c file ws = orOther (fieldFault c file) (orderFault c ws)
+
+-- a problem is granted where its records have no fault
+abbrev pub judged : Model → Option ProblemFault → Result Model Fault
+judged m None = Ok m
+judged m (Some fault) = Err (Problem fault)
 
 -- the outcome after the checks of the header
 abbrev pub headerOpened : List ℕ → Result Counts FileFault → Result Model Fault
 headerOpened file (Err fault) = Err (File fault)
-headerOpened file (Ok c) = recordsOpened file c (stated c file)
+headerOpened file (Ok c) = judged (stated c file) (recordsFault c file (stated c file .windows))
 
 -- the one outcome of opening a file: its problem, or its first fault
 abbrev pub opened : List ℕ → Result Model Fault

@@ -13,7 +13,7 @@ pub struct Counts {
 
 impl Counts {
     /// The frame and every count are within their limits.
-    pub fn fit(&self) -> bool
+    pub(crate) fn fit(&self) -> bool
         ensures { λ r. ⌜ Decides r (CountsFit (now (self .entry))) ⌝ }
     {
         self.dimensions.fit()

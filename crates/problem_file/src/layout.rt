@@ -28,14 +28,14 @@ impl Header {
     }
 
     /// How many records there are.
-    pub fn records(&self) -> usize
+    pub(crate) fn records(&self) -> usize
         ensures { λ r. ⌜ r ≡ total (now (self .entry) .counts) ⌝ }
     {
         self.first(Section::Exclusions) + self.counts.exclusions as usize
     }
 
     /// The section that record `index` stands in, or nothing past the last record.
-    pub fn section(&self, index: usize) -> Option<Section>
+    pub(crate) fn section(&self, index: usize) -> Option<Section>
         ensures { λ r. ⌜ r ≡ sectionOf (now (self .entry) .counts) index ⌝ }
     {
         if index < self.first(Section::Windows) {
@@ -52,7 +52,7 @@ impl Header {
     }
 
     /// How many bytes a record of the section has.
-    pub fn size(&self, section: Section) -> usize
+    pub(crate) fn size(&self, section: Section) -> usize
         ensures { λ r. ⌜ r ≡ size (now (self .entry) .counts) section ⌝ }
     {
         match section {
@@ -63,7 +63,7 @@ impl Header {
     }
 
     /// The byte at which the section begins: the end of what precedes it.
-    pub fn start(&self, section: Section) -> usize
+    pub(crate) fn start(&self, section: Section) -> usize
         ensures { λ r. ⌜ r ≡ start (now (self .entry) .counts) section ⌝ }
     {
         let counts = self.counts;
@@ -79,7 +79,7 @@ impl Header {
     }
 
     /// The byte at which the last section ends.
-    pub fn file_end(&self) -> usize
+    pub(crate) fn file_end(&self) -> usize
         ensures { λ r. ⌜ r ≡ fileEnd (now (self .entry) .counts) ⌝ }
     {
         self.start(Section::Exclusions) + 12 * self.counts.exclusions as usize

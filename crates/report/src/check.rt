@@ -6,9 +6,8 @@ ghost use Rattle.std.specs.Vec.{made};
 ghost use mathlib.Core.Path.{_≡_};
 use crate::refusal::RefusalFromFault;
 use crate::verdict::Verdict;
-use crate::verdict::line;
 use opening::fault::OpenError;
-use opening::open::open;
+use opening::open;
 use std::alloc::AllocError;
 use std::alloc::Global;
 
@@ -27,8 +26,8 @@ pub fn verdict(heap: Global, problem: &[u8]) -> Result<Verdict, AllocError>
 }
 
 /// The line that framecheck prints for the bytes of a problem file.
-pub fn check(heap: Global, problem: &[u8]) -> Result<String, AllocError>
+pub fn line(heap: Global, problem: &[u8]) -> Result<String, AllocError>
     ensures { λ r. ⌜ made r (λ text. string-bytes text ≡ lineOf (verdictOf (opened (now (problem .entry))))) ⌝ }
 {
-    line(heap, &verdict(heap, problem)?)
+    verdict(heap, problem)?.line(heap)
 }

@@ -70,9 +70,11 @@ pub impl fmt::Display for Verdict as VerdictDisplay {
     }
 }
 
-/// The line of a verdict, without its end.
-pub fn line(heap: Global, verdict: &Verdict) -> Result<String, AllocError>
-    ensures { λ r. ⌜ made r (λ text. string-bytes text ≡ lineOf (now (verdict .entry))) ⌝ }
-{
-    format!(heap, "{verdict}")
+impl Verdict {
+    /// The verdict's line, without its end.
+    pub fn line(&self, heap: Global) -> Result<String, AllocError>
+        ensures { λ r. ⌜ made r (λ text. string-bytes text ≡ lineOf (now (self .entry))) ⌝ }
+    {
+        format!(heap, "{self}")
+    }
 }

@@ -5,7 +5,7 @@ use Rattle.problem_file.specs.Records.{shown}
 use Rattle.opening.specs.Opened.{lowest, misfit}
 use Rattle.opening.proofs.Lowest.{lowest-none}
 use Rattle.opening.proofs.Walks.{walked-more, walked-found, walked-all}
-use Rattle.opening.proofs.misfit.first_misfit.Needs as need
+use Rattle.opening.proofs.fields.field_fault.Needs as need
 
 pub loop-item-holds : need.loop-item-holds
 loop-item-holds c =
@@ -20,7 +20,7 @@ loop-item-holds c =
 pub returns-then-not-in-range : need.returns-then-not-in-range
 returns-then-not-in-range c =
     let e = c .in-Some .ensures tt in
-    walked-found (c .args .header .counts) (c .args .file .now) (c .loop-item .reader .header .counts) (c .loop-item .reader .file .now) (c .loop-item .reader .position) (c .position .result) (shown (c .in-Some .item)) (c .in-range .result) (c .loop-item .inv) (e .shows) (c .position .ensures ∙ e .step .position) (c .in-range .ensures) (c .if-not-in-range .taken)
+    walked-found (c .args .header .counts) (c .args .file .now) (c .loop-item .reader .header .counts) (c .loop-item .reader .file .now) (c .loop-item .reader .position) (c .position-record .result) (shown (c .in-Some .item)) (c .in-range .result) (c .loop-item .inv) (e .shows) (c .position-record .ensures ∙ e .step .position) (c .in-range .ensures) (c .if-not-in-range .taken)
 
 pub loop-item-again : need.loop-item-again
 loop-item-again c =

@@ -2,7 +2,7 @@ use Prim.Native.Nat.{_-_, _≤_}
 use mathlib.Core.Path.{_≡_}
 use Rattle.problem_file.specs.Layout.{total}
 use Rattle.opening.proofs.Walks.{Walked}
-use Rattle.opening.proofs.misfit.first_misfit.Given as given
+use Rattle.opening.proofs.fields.field_fault.Given as given
 
 abbrev pub Inv-loop-item : given.InvT-loop-item
 Inv-loop-item l = Walked (l .header .counts) (l .file) (l .reader .header .counts) (l .reader .file .now) (l .reader .position)

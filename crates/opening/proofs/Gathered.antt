@@ -1,5 +1,6 @@
 -- Gathering the records one by one gives the lists that the file states.
 use Prim.Native.Nat.{ℕ, min, _+_, _-_, _≤_, _<_}
+use mathlib.Core.Bool.{true}
 use mathlib.Core.List.{List, [], _∷_, _++_, map}
 use mathlib.Core.Path.{_≡_, refl, sym, ap, subst, _∙_}
 use lib.ListN.{length}
@@ -8,13 +9,16 @@ use Rattle.std.proofs.shelf.Counted.{map-counting-more}
 use Rattle.std.specs.Iters.{counting}
 use Rattle.std.specs.declared.option.Option.the-variants.{Some, None}
 use Rattle.problem.specs.Limits.{Model}
-use Rattle.problem_file.proofs.Places.{Inside, inside, inside-total, none-left}
-use Rattle.problem_file.proofs.Shows.{There, there}
+use Rattle.problem_file.proofs.Places.{Inside, inside}
+use Rattle.problem_file.proofs.Shows.{there}
+use Rattle.problem_file.proofs.Standing.{Standing, standing-more, standing-end}
 use Rattle.problem_file.specs.declared.counts.Counts.{Counts}
 use Rattle.problem_file.specs.declared.layout.Section.{Section}
 use Rattle.problem_file.specs.declared.layout.Section.the-variants.{Tasks, Windows, Dependencies, Exclusions}
-use Rattle.problem_file.specs.Layout.{count, first, total, sectionOf, fileEnd}
-use Rattle.problem_file.specs.Records.{Shown, reading, recordBytes, recordIn}
+use Rattle.problem_file.specs.declared.reader.Reader.{Reader}
+use Rattle.problem_file.specs.Reader.{Stepped}
+use Rattle.problem_file.specs.Layout.{count, first, total, sectionOf, fileEnd, recordBytes}
+use Rattle.problem_file.specs.Records.{Shown, reading, recordIn}
 use Rattle.opening.specs.Opened.{taskIn, windowIn, dependencyIn, exclusionIn, stated}
 use Rattle.opening.specs.Statement.{added, bare}
 
@@ -95,31 +99,28 @@ partly-all c file =
     let e = all Exclusions (omega arith) in
     cc
 
--- a walk through the records of the file has come to record `i`, and `m` has all before it
-pub record Gathered (c : Counts) (file : List ℕ) (at : Counts) (in′ : List ℕ) (i : ℕ) (m : Model) : Type 0 where
-  pub counts : at ≡ c
-  pub bytes : in′ ≡ file
-  pub bound : i ≤ total c
-  pub has : m ≡ partly c file i
+-- `m` has all records before the reader's position
+pub record Gathered (c : Counts) (file : List ℕ) (r : Reader) (m : Model) : Type 0 where
+  pub stands : Standing c file r
+  pub has : m ≡ partly c file (r .position)
 
-pub gathered-none : (c : Counts) (file : List ℕ) (at : Counts) (in′ : List ℕ) (i : ℕ) (m : Model) → at ≡ c → in′ ≡ file → i ≡ 0 → m ≡ bare (c .dimensions) → Gathered c file at in′ i m
-gathered-none c file at in′ i m counts bytes zero none =
-    record { counts = counts; bytes = bytes; bound = omega arith; has = none ∙ partly-none c file ∙ ap (partly c file) (sym zero) }
+pub gathered-none : (c : Counts) (file : List ℕ) (r : Reader) (m : Model) → Standing c file r → r .position ≡ 0 → m ≡ bare (c .dimensions) → Gathered c file r m
+gathered-none c file r m stands zero none =
+    record { stands = stands; has = none ∙ partly-none c file ∙ ap (partly c file) (sym zero) }
 
-pub gathered-more : (c : Counts) (file : List ℕ) (at at′ : Counts) (in′ in″ : List ℕ) (i j : ℕ) (m n : Model) (x : Shown) → Gathered c file at in′ i m → Some x ≡ recordIn at in′ i → at′ ≡ at → in″ ≡ in′ → j ≡ i + 1 → n ≡ added m x → Gathered c file at′ in″ j n
-gathered-more c file at at′ in′ in″ i j m n x g shows same-counts same-bytes next more =
-    let e : recordIn c file i ≡ Some x = ap (λ b. recordIn c b i) (sym (g .bytes)) ∙ ap (λ d. recordIn d in′ i) (sym (g .counts)) ∙ sym shows in
-    let t = there c file i (sectionOf c i) x e in
-    let h = inside c i (t .section) (t .stands) in
+pub gathered-more : (c : Counts) (file : List ℕ) (r t : Reader) (m n : Model) (x : Shown) → Gathered c file r m → recordIn c file (r .position) ≡ Some x → Stepped true r t → n ≡ added m x → Gathered c file t n
+gathered-more c file r t m n x g shows step more =
+    let at = there c file (r .position) (sectionOf c (r .position)) x shows in
+    let h = inside c (r .position) (at .section) (at .stands) in
     record {
-      counts = same-counts ∙ g .counts;
-      bytes = same-bytes ∙ g .bytes;
-      bound = omega (arith, inside-total c i (t .section) h);
-      has = more ∙ ap (λ k. added k x) (g .has) ∙ ap (added (partly c file i)) (t .value) ∙ partly-more c file i (t .section) h ∙ ap (partly c file) (sym next);
+      stands = standing-more c file r t x (g .stands) shows step;
+      has = more
+          ∙ ap (λ k. added k x) (g .has)
+          ∙ ap (added (partly c file (r .position))) (at .value)
+          ∙ partly-more c file (r .position) (at .section) h
+          ∙ ap (partly c file) (sym (step .position));
     }
 
-pub gathered-all : (c : Counts) (file : List ℕ) (at : Counts) (in′ : List ℕ) (i : ℕ) (m : Model) → length file ≡ fileEnd c → Gathered c file at in′ i m → None ≡ recordIn at in′ i → m ≡ stated c file
-gathered-all c file at in′ i m whole g shows =
-    let e : recordIn c file i ≡ None = ap (λ b. recordIn c b i) (sym (g .bytes)) ∙ ap (λ d. recordIn d in′ i) (sym (g .counts)) ∙ sym shows in
-    let all : i ≡ total c = omega (arith, g .bound, none-left c file i whole e) in
-    g .has ∙ ap (partly c file) all ∙ partly-all c file
+pub gathered-all : (c : Counts) (file : List ℕ) (r : Reader) (m : Model) → length file ≡ fileEnd c → Gathered c file r m → recordIn c file (r .position) ≡ None → m ≡ stated c file
+gathered-all c file r m whole g shows =
+    g .has ∙ ap (partly c file) (standing-end c file r whole (g .stands) shows) ∙ partly-all c file

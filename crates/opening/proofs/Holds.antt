@@ -17,8 +17,8 @@ use Rattle.problem_file.proofs.Places.{Inside, inside, some-section, record-the
 use Rattle.problem_file.specs.declared.counts.Counts.{Counts}
 use Rattle.problem_file.specs.declared.layout.Section.{Section}
 use Rattle.problem_file.specs.declared.layout.Section.the-variants.{Tasks, Windows, Dependencies, Exclusions}
-use Rattle.problem_file.specs.Layout.{count, first, total, fileEnd}
-use Rattle.problem_file.specs.Records.{reading, recordBytes, recordIn}
+use Rattle.problem_file.specs.Layout.{count, first, total, fileEnd, recordBytes}
+use Rattle.problem_file.specs.Records.{reading, recordIn}
 use Rattle.opening.specs.Entries.{Entry, ofTask, ofWindow, ofDependency, ofExclusion, entries, entryOf}
 use Rattle.opening.specs.Opened.{stated, taskIn, windowIn, dependencyIn, exclusionIn}
 

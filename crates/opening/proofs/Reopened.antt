@@ -22,7 +22,7 @@ use Rattle.problem.specs.declared.dependency.Dependency.{Dependency}
 use Rattle.problem.specs.declared.exclusion.Exclusion.{Exclusion}
 use Rattle.problem.specs.declared.task.Task.{Task}
 use Rattle.problem.specs.declared.window.Window.{Window}
-use Rattle.problem.specs.Limits.{Model, Within, InOrder, Follows, TaskFits, WindowFits, DependencyFits, ExclusionFits}
+use Rattle.problem.specs.Limits.{Model, Within, TaskFits, WindowFits, DependencyFits, ExclusionFits}
 use Rattle.problem_file.proofs.Coded.{task-words, task-back, mark-word, window-back, dependency-back, exclusion-back}
 use Rattle.problem_file.proofs.Headers.{Formed, header-from}
 use Rattle.problem_file.proofs.Places.{Inside, inside, some-section, record-there}
@@ -31,13 +31,13 @@ use Rattle.problem_file.specs.declared.layout.Section.{Section}
 use Rattle.problem_file.specs.declared.layout.Section.the-variants.{Tasks, Windows, Dependencies, Exclusions}
 use Rattle.problem_file.specs.Encoding.{taskWords, windowWords, dependencyWords, exclusionWords, taskBytes, windowBytes, dependencyBytes, exclusionBytes, headerWords, encode}
 use Rattle.problem_file.specs.Header.{headerOf}
-use Rattle.problem_file.specs.Layout.{CountsFit, count, first, size, start, total, fileEnd}
-use Rattle.problem_file.specs.Records.{Shown, taskOf, windowOf, dependencyOf, exclusionOf, reading, recordBytes}
+use Rattle.problem_file.specs.Layout.{CountsFit, count, first, size, start, total, fileEnd, recordBytes}
+use Rattle.problem_file.specs.Records.{Shown, taskOf, windowOf, dependencyOf, exclusionOf, reading}
 use Rattle.opening.specs.declared.fault.ProblemFault.the-variants.{Field, Order}
-use Rattle.opening.specs.Opened.{lowest, misfit, outside, misplaced, noWindow, stated, orderFault, recordsFault, judged, headerOpened, opened, taskIn, windowIn, dependencyIn, exclusionIn}
+use Rattle.opening.specs.Opened.{lowest, misfit, outside, stated, fieldFault, orderFault, judged, headerOpened, opened, taskIn, windowIn, dependencyIn, exclusionIn}
 use Rattle.opening.specs.Ranges.{Fits, inRange}
 use Rattle.opening.proofs.Lowest.{lowest-none-from}
-use Rattle.opening.proofs.Ordered.{misplaced-is}
+use Rattle.opening.proofs.Ordered.{none-misplaced}
 use Rattle.opening.proofs.Tests.{decides-mark, decides-shown}
 use Rattle.opening.proofs.Walks.{sized}
 
@@ -284,28 +284,11 @@ stated-is m within =
     (λ k d lt. exclusion-at m within (first c Exclusions + k) d (omega arith) .0 ∙ ap (λ j. getD (m .exclusions) j d) (from (first c Exclusions) k)) in
     λ i. record { dimensions = m .dimensions; tasks = tasks i; windows = windows i; dependencies = dependencies i; exclusions = exclusions i }
 
--- windows in order are not misplaced
-none-misplaced : (ws : List Window) → InOrder ws → lowest (misplaced ws) (length ws) ≡ None
-unfolding misplaced
-none-misplaced ws order =
-    lowest-none-from (misplaced ws) (length ws) (at ws order)
-  where
-    at : (ws : List Window) → InOrder ws → (k : ℕ) → k < length ws → misplaced ws k ≡ false
-    at ws order zero lt = refl
-    at ws order (suc k) lt =
-        let one : suc k - 1 ≡ k = omega arith in
-        let two : k + 1 ≡ suc k = omega arith in
-        let follows-k = order k noWindow (omega arith) in
-        let holds : Follows (getD ws (suc k - 1) noWindow) (getD ws (suc k) noWindow) =
-        subst (λ (j : ℕ). Follows (getD ws (suc k - 1) noWindow) (getD ws j noWindow)) two
-        (subst (λ (j : ℕ). Follows (getD ws j noWindow) (getD ws (k + 1) noWindow)) (sym one) follows-k) in
-        misplaced-is ws (suc k) true (omega arith) (λ _. holds, λ _. refl)
-
 pub reopened : (m : Model) → Within m → opened (encode m) ≡ Ok m
 reopened m within =
     let c = countsOf m in
     let file = encode m in
     ap (headerOpened file) (header-from file c (encode-formed m within))
-    ∙ ap (λ x. judged x (recordsFault c file (x .windows))) (stated-is m within)
+    ∙ ap (λ x. judged x (orOther (fieldFault c file) (orderFault c (x .windows)))) (stated-is m within)
     ∙ ap (λ o. judged m (orOther (mapped Field o) (orderFault c (m .windows)))) (none-misfits m within)
     ∙ ap (λ o. judged m (mapped (λ k. Order (first c Windows + k)) o)) (none-misplaced (m .windows) (within .order))

@@ -15,18 +15,19 @@ use Rattle.std.specs.declared.option.Option.{Option}
 use Rattle.std.specs.declared.option.Option.the-variants.{Some, None}
 use Rattle.std.specs.shelf.Lists.{All}
 use Rattle.problem.specs.declared.window.Window.{Window}
-use Rattle.problem.specs.Limits.{Model, Within, InOrder, Follows, TaskFits, WindowFits, DependencyFits, ExclusionFits}
+use Rattle.problem.specs.Limits.{Within, TaskFits, WindowFits, DependencyFits, ExclusionFits}
 use Rattle.problem_file.proofs.Headers.{Formed}
 use Rattle.problem_file.proofs.Places.{Inside, inside-total, record-there}
 use Rattle.problem_file.specs.declared.counts.Counts.{Counts}
 use Rattle.problem_file.specs.declared.layout.Section.{Section}
 use Rattle.problem_file.specs.declared.layout.Section.the-variants.{Tasks, Windows, Dependencies, Exclusions}
-use Rattle.problem_file.specs.Layout.{count, first, total, fileEnd}
-use Rattle.problem_file.specs.Records.{Shown, reading, recordBytes, recordIn}
+use Rattle.problem_file.specs.Layout.{count, first, total, fileEnd, recordBytes}
+use Rattle.problem_file.specs.Records.{Shown, reading, recordIn}
 use Rattle.opening.specs.Opened.{lowest, misfit, outside, misplaced, noWindow, stated, taskIn, windowIn, dependencyIn, exclusionIn}
 use Rattle.opening.specs.Ranges.{Fits, inRange, follows}
 use Rattle.opening.proofs.Lowest.{each-fails}
-use Rattle.opening.proofs.Tests.{decides-shown, decides-follows}
+use Rattle.opening.proofs.Ordered.{in-order}
+use Rattle.opening.proofs.Tests.{decides-shown}
 use Rattle.opening.proofs.Walks.{sized}
 
 -- what holds at each number from `a` on holds of the list
@@ -43,19 +44,6 @@ fits-each c file whole none s i h =
     let there = record-there c file i s whole h in
     let passes : not (inRange (c .dimensions) x) ≡ false = ap (outside c) (sym there) ∙ each-fails (misfit c file) (total c) none i (inside-total c i s h) in
     decides-shown (c .dimensions) x (sized c file i x there) .0 (not-false (inRange (c .dimensions) x) passes)
-
--- each window but the first follows the one before
-in-order : (ws : List Window) → lowest (misplaced ws) (length ws) ≡ None → InOrder ws
-unfolding misplaced
-in-order ws none k v lt =
-    let passes = each-fails (misplaced ws) (length ws) none (k + 1) lt in
-    let one : (k + 1) - 1 ≡ k = omega arith in
-    let tested : not (follows (getD ws ((k + 1) - 1) noWindow) (getD ws (k + 1) noWindow)) ≡ false =
-    ap (λ b. b && not (follows (getD ws ((k + 1) - 1) noWindow) (getD ws (k + 1) noWindow))) (sym (lt-ltb 0 (k + 1) (omega arith))) ∙ passes in
-    let holds = decides-follows (getD ws ((k + 1) - 1) noWindow) (getD ws (k + 1) noWindow) .0 (not-false _ tested) in
-    let e : getD ws ((k + 1) - 1) noWindow ≡ getD ws k v = ap (λ j. getD ws j noWindow) one ∙ getD-default ws k noWindow v (omega arith) in
-    let f : getD ws (k + 1) noWindow ≡ getD ws (k + 1) v = getD-default ws (k + 1) noWindow v lt in
-    subst (λ (w : Window). Follows (getD ws k v) w) f (subst (λ (u : Window). Follows u (getD ws (k + 1) noWindow)) e holds)
 
 pub stated-within : (c : Counts) (file : List ℕ) → Formed file c → lowest (misfit c file) (total c) ≡ None → lowest (misplaced (stated c file .windows)) (length (stated c file .windows)) ≡ None → Within (stated c file)
 unfolding stated

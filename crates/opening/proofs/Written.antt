@@ -21,8 +21,7 @@ use Rattle.problem_file.specs.declared.counts.Counts.{Counts}
 use Rattle.problem_file.specs.declared.layout.Section.{Section}
 use Rattle.problem_file.specs.declared.layout.Section.the-variants.{Tasks, Windows, Dependencies, Exclusions}
 use Rattle.problem_file.specs.Encoding.{taskWords, windowWords, dependencyWords, exclusionWords, taskBytes, windowBytes, dependencyBytes, exclusionBytes, headerWords, encode}
-use Rattle.problem_file.specs.Layout.{count, first, size, start, total, fileEnd}
-use Rattle.problem_file.specs.Records.{recordAt, recordBytes}
+use Rattle.problem_file.specs.Layout.{count, first, size, start, total, fileEnd, recordAt, recordBytes}
 use Rattle.opening.specs.Opened.{lowest, misfit, stated, taskIn, windowIn, dependencyIn, exclusionIn}
 use Rattle.opening.proofs.Tests.{decides-mark}
 use Rattle.opening.proofs.Within.{fits-each}

@@ -18,8 +18,8 @@ use Rattle.problem_file.specs.declared.counts.Counts.{Counts}
 use Rattle.problem_file.specs.declared.fault.FileFault.{FileFault}
 use Rattle.problem_file.specs.declared.layout.Section.the-variants.{Tasks, Windows, Dependencies, Exclusions}
 use Rattle.problem_file.specs.Header.{headerOf}
-use Rattle.problem_file.specs.Layout.{count, first, total}
-use Rattle.problem_file.specs.Records.{Shown, taskOf, windowOf, dependencyOf, exclusionOf, recordBytes, recordIn}
+use Rattle.problem_file.specs.Layout.{count, first, total, recordBytes}
+use Rattle.problem_file.specs.Records.{Shown, taskOf, windowOf, dependencyOf, exclusionOf, recordIn}
 use Rattle.opening.specs.declared.fault.Fault.{Fault}
 use Rattle.opening.specs.declared.fault.Fault.the-variants.{File, Problem}
 use Rattle.opening.specs.declared.fault.ProblemFault.{ProblemFault}
@@ -67,9 +67,19 @@ misfit c file i = outside c (recordIn c file i)
 abbrev pub noWindow : Window
 noWindow = record { processor = 0; partition = 0; begin = 0; end = 0 }
 
--- window `k` of the list, not the first, may not stand after the one before it
+-- the window before window `k` of the list, if there is one
+abbrev pub windowBefore : List Window → ℕ → Option Window
+windowBefore ws zero = None
+windowBefore ws (suc k) = Some (getD ws k noWindow)
+
+-- a window may not stand after the one before it
+abbrev pub outOfPlace : Option Window → Window → Bool
+outOfPlace None w = false
+outOfPlace (Some v) w = not (follows v w)
+
+-- window `k` of the list may not stand after the one before it
 unfoldable pub misplaced : List Window → ℕ → Bool
-misplaced ws k = ltb 0 k && not (follows (getD ws (k - 1) noWindow) (getD ws k noWindow))
+misplaced ws k = outOfPlace (windowBefore ws k) (getD ws k noWindow)
 
 -- check 4: the lowest record with a field outside its range
 abbrev pub fieldFault : Counts → List ℕ → Option ProblemFault
@@ -80,8 +90,8 @@ abbrev pub orderFault : Counts → List Window → Option ProblemFault
 orderFault c ws = mapped (λ k. Order (first c Windows + k)) (lowest (misplaced ws) (length ws))
 
 -- the first fault of the records: check 5 counts only where check 4 finds nothing
-abbrev pub recordsFault : Counts → List ℕ → List Window → Option ProblemFault
-recordsFault c file ws = orOther (fieldFault c file) (orderFault c ws)
+abbrev pub recordsFault : Counts → List ℕ → Option ProblemFault
+recordsFault c file = orOther (fieldFault c file) (orderFault c (stated c file .windows))
 
 -- a problem is granted where its records have no fault
 abbrev pub judged : Model → Option ProblemFault → Result Model Fault
@@ -91,7 +101,7 @@ judged m (Some fault) = Err (Problem fault)
 -- the outcome after the checks of the header
 abbrev pub headerOpened : List ℕ → Result Counts FileFault → Result Model Fault
 headerOpened file (Err fault) = Err (File fault)
-headerOpened file (Ok c) = judged (stated c file) (recordsFault c file (stated c file .windows))
+headerOpened file (Ok c) = judged (stated c file) (recordsFault c file)
 
 -- the one outcome of opening a file: its problem, or its first fault
 abbrev pub opened : List ℕ → Result Model Fault

@@ -20,27 +20,25 @@ use crate::fields::field_fault;
 use crate::order::order_fault;
 use crate::statement::Statement;
 use problem::problem::Problem;
-use problem::window::Window;
 use problem_file::header::Header;
 use std::alloc::Global;
 
 /// The first fault of the records: their order counts only where every field is in its range.
-fn records_fault(file: &[u8], header: Header, windows: &[Window]) -> Option<ProblemFault>
+fn records_fault(file: &[u8], header: Header) -> Option<ProblemFault>
     requires { ⌜ length (now file) ≡ fileEnd (header .counts) ⌝ }
-    ensures { λ r. ⌜ r ≡ recordsFault (header .counts) (now (file .entry)) (now (windows .entry)) ⌝ }
+    ensures { λ r. ⌜ r ≡ recordsFault (header .counts) (now (file .entry)) ⌝ }
 {
-    field_fault(file, header).or(order_fault(header, windows))
+    field_fault(file, header).or(order_fault(file, header))
 }
 
-/// The problem that the file states, or the first of its faults.
+/// The problem that the file states, or the first of its faults. Only a file without faults needs memory.
 pub fn open(heap: Global, file: &[u8]) -> Result<Problem, OpenError>
     ensures outcome { λ r. ⌜ Outcome (opened (now (file .entry))) r ⌝ }
     ensures encodings { λ r. ⌜ OpensEncodings (now (file .entry)) r ⌝ }
     ensures records { λ r. ⌜ HoldsRecords (now (file .entry)) r ⌝ }
 {
     let header = Header::read(file)?;
-    let statement = Statement::gather(heap, file, header)?;
-    if let Some(fault) = records_fault(file, header, &statement.windows) {
+    if let Some(fault) = records_fault(file, header) {
         return Err(fault.into());
     }
     let Statement {
@@ -49,7 +47,7 @@ pub fn open(heap: Global, file: &[u8]) -> Result<Problem, OpenError>
         windows,
         dependencies,
         exclusions,
-    } = statement;
+    } = Statement::gather(heap, file, header)?;
     Ok(Problem {
         dimensions,
         tasks,

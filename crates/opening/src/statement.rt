@@ -58,8 +58,8 @@ impl Statement {
         requires { ⌜ length (now file) ≡ fileEnd (header .counts) ⌝ }
         ensures { λ r. ⌜ made r (λ s. said s ≡ stated (header .counts) (now (file .entry))) ⌝ }
     {
-        let mut statement = Statement::new(heap, header.counts.dimensions);
         let mut reader = Reader::new(file, header);
+        let mut statement = Statement::new(heap, header.counts.dimensions);
         while let Some(item) = reader.next() {
             statement.push(item)?;
         }

@@ -15,8 +15,8 @@ use Rattle.std.specs.declared.option.Option.the-variants.{Some, None}
 use Rattle.problem_file.specs.declared.counts.Counts.{Counts}
 use Rattle.problem_file.specs.declared.layout.Section.{Section}
 use Rattle.problem_file.specs.declared.layout.Section.the-variants.{Tasks, Windows, Dependencies, Exclusions}
-use Rattle.problem_file.specs.Layout.{count, size, first, start, total, fileEnd, sectionOf}
-use Rattle.problem_file.specs.Records.{Shown, reading, recordAt, recordBytes, recordOf, recordIn}
+use Rattle.problem_file.specs.Layout.{count, size, first, start, total, fileEnd, sectionOf, recordAt, recordBytes}
+use Rattle.problem_file.specs.Records.{Shown, reading, recordOf, recordIn}
 use Rattle.problem_file.proofs.Shows.{record-at}
 
 -- record `i` is one of section `s`

@@ -1,6 +1,8 @@
 use Prim.Native.Nat.{ℕ, _+_, _-_, _*_, _≤_}
 use mathlib.Core.Bool.{cond}
+use mathlib.Core.List.{List}
 use lib.Dec.{ltb}
+use lib.ListN.{length, take, drop}
 use Rattle.std.specs.declared.option.Option.{Option}
 use Rattle.std.specs.declared.option.Option.the-variants.{Some, None}
 use Rattle.problem.specs.Limits.{DimensionsFit}
@@ -55,3 +57,15 @@ sectionOf c i =
     (cond (ltb i (first c Dependencies)) (Some Windows)
     (cond (ltb i (first c Exclusions)) (Some Dependencies)
     (cond (ltb i (total c)) (Some Exclusions) None)))
+
+-- where record `i`, which stands in section `s`, begins
+abbrev pub recordAt : Counts → Section → ℕ → ℕ
+recordAt c s i = start c s + size c s * (i - first c s)
+
+-- the bytes of record `i`, which stands in section `s`
+abbrev pub recordBytes : Counts → List ℕ → Section → ℕ → List ℕ
+recordBytes c file s i = take (size c s) (drop (recordAt c s i) file)
+
+-- those bytes, where all of them are there
+abbrev pub bytesIn : Counts → List ℕ → Section → ℕ → Option (List ℕ)
+bytesIn c file s i = cond (ltb (length file) (recordAt c s i + size c s)) None (Some (recordBytes c file s i))

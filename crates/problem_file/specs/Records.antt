@@ -1,9 +1,9 @@
-use Prim.Native.Nat.{ℕ, _+_, _-_, _*_}
+use Prim.Native.Nat.{ℕ, _+_, _*_}
 use mathlib.Core.Bool.{cond}
 use mathlib.Core.List.{List, [], _∷_}
 use denote.Ref.{now}
-use lib.Dec.{leb, eqb, ltb}
-use lib.ListN.{length, take, drop}
+use lib.Dec.{eqb, ltb}
+use Rattle.std.specs.Options.{mapped}
 use Rattle.std.specs.declared.option.Option.{Option}
 use Rattle.std.specs.declared.option.Option.the-variants.{Some, None}
 use Rattle.words.specs.Words.{wordAt}
@@ -16,7 +16,7 @@ use Rattle.problem_file.specs.declared.layout.Section.{Section}
 use Rattle.problem_file.specs.declared.layout.Section.the-variants.{Tasks, Windows, Dependencies, Exclusions}
 use Rattle.problem_file.specs.declared.record.Record.{Record}
 use Rattle.problem_file.specs.declared.record.Record.the-variants.{Task as OfTask, Window as OfWindow, Dependency as OfDependency, Exclusion as OfExclusion}
-use Rattle.problem_file.specs.Layout.{size, first, start, sectionOf}
+use Rattle.problem_file.specs.Layout.{bytesIn, sectionOf}
 
 -- the deadline that a word states: the largest word stands for none
 abbrev pub deadlineOf : ℕ → Option ℕ
@@ -69,19 +69,10 @@ reading p Windows bytes = aWindow (windowOf bytes) bytes
 reading p Dependencies bytes = aDependency (dependencyOf bytes) bytes
 reading p Exclusions bytes = anExclusion (exclusionOf bytes) bytes
 
--- where record `i`, which stands in section `s`, begins
-abbrev pub recordAt : Counts → Section → ℕ → ℕ
-recordAt c s i = start c s + size c s * (i - first c s)
-
--- the bytes of record `i`, which stands in section `s`
-abbrev pub recordBytes : Counts → List ℕ → Section → ℕ → List ℕ
-recordBytes c file s i = take (size c s) (drop (recordAt c s i) file)
-
 -- record `i` of the file, where it stands in a section and all its bytes are there
 abbrev pub recordOf : Counts → List ℕ → ℕ → Option Section → Option Shown
 recordOf c file i None = None
-recordOf c file i (Some s) =
-    cond (ltb (length file) (recordAt c s i + size c s)) None (Some (reading (c .dimensions .processors) s (recordBytes c file s i)))
+recordOf c file i (Some s) = mapped (reading (c .dimensions .processors) s) (bytesIn c file s i)
 
 -- record `i` of the file, counted from 0 through all sections
 abbrev pub recordIn : Counts → List ℕ → ℕ → Option Shown

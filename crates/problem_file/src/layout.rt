@@ -1,4 +1,8 @@
-ghost use Rattle.problem_file.specs.Layout.{fileEnd, first, sectionOf, size, start, total};
+ghost use Prim.Native.Nat.{_+_, _≤_, _<_};
+ghost use Rattle.problem_file.specs.Layout.{bytesIn, count, fileEnd, first, sectionOf, size, start, total};
+ghost use Rattle.std.specs.Options.{mapped};
+ghost use Rattle.std.specs.Slices.{found};
+ghost use lib.ListN.{length};
 ghost use mathlib.Core.Path.{_≡_};
 use crate::header::Header;
 
@@ -83,5 +87,25 @@ impl Header {
         ensures { λ r. ⌜ r ≡ fileEnd (now (self .entry) .counts) ⌝ }
     {
         self.start(Section::Exclusions) + 12 * self.counts.exclusions as usize
+    }
+
+    /// The bytes of a record of the section, where all of them are in the file.
+    pub(crate) fn bytes<'a>(
+        &self,
+        file: &'a [u8],
+        section: Section,
+        index: usize,
+    ) -> Option<&'a [u8]>
+        requires { ⌜ first (now self .counts) section ≤ index ⌝ }
+        requires { ⌜ index < first (now self .counts) section + count (now self .counts) section ⌝ }
+        ensures value { λ r. ⌜ mapped now r ≡ bytesIn (now (self .entry) .counts) (now (file .entry)) section index ⌝ }
+        ensures len { λ r. ⌜ found r (λ bytes. length (now bytes) ≡ size (now (self .entry) .counts) section) ⌝ }
+    {
+        let size = self.size(section);
+        let at = self.start(section) + size * (index - self.first(section));
+        if file.len() < at + size {
+            return None;
+        }
+        Some(&file[at..at + size])
     }
 }

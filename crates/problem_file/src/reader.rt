@@ -1,6 +1,6 @@
 ghost use Prim.Native.Nat.{_+_};
 ghost use Rattle.problem_file.specs.Records.{recordIn, shown};
-ghost use Rattle.problem_file.specs.Reader.{Stepped};
+ghost use Rattle.problem_file.specs.Reader.{standing, Stepped};
 ghost use Rattle.std.specs.Options.{isSome, mapped};
 ghost use mathlib.Core.Path.{_≡_};
 use crate::header::Header;
@@ -17,14 +17,19 @@ pub struct Reader<'a> {
 impl<'a> Reader<'a> {
     /// Stands at the first record of the file, as the header lays it out.
     pub fn new(file: &'a [u8], header: Header) -> Reader<'a>
-        ensures file { λ r. ⌜ r .file ≡ file .entry ⌝ }
-        ensures header { λ r. ⌜ r .header ≡ header ⌝ }
-        ensures position { λ r. ⌜ r .position ≡ 0 ⌝ }
+        ensures { λ r. ⌜ r ≡ standing (file .entry) header 0 ⌝ }
+    {
+        Reader::at(file, header, 0)
+    }
+
+    /// Stands at a record, counted from 0 through all sections.
+    pub fn at(file: &'a [u8], header: Header, position: usize) -> Reader<'a>
+        ensures { λ r. ⌜ r ≡ standing (file .entry) header position ⌝ }
     {
         Reader {
             file,
             header,
-            position: 0,
+            position,
         }
     }
 
@@ -46,12 +51,10 @@ impl<'a> Reader<'a> {
         let Some(section) = header.section(position) else {
             return None;
         };
-        let size = header.size(section);
-        let at = header.start(section) + size * (position - header.first(section));
-        if file.len() < at + size {
+        let Some(bytes) = header.bytes(file, section, position) else {
             return None;
-        }
+        };
         self.position = position + 1;
-        Some(header.decode(section, &file[at..at + size]))
+        Some(header.decode(section, bytes))
     }
 }

@@ -2,7 +2,9 @@ ghost use Rattle.opening.specs.Opened.{opened};
 ghost use Rattle.report.specs.Line.{lineOf};
 ghost use Rattle.report.specs.Check.{verdictOf};
 ghost use Rattle.std.specs.Of.String.{string-bytes};
+ghost use Rattle.std.specs.Results.{Cases, isOk};
 ghost use Rattle.std.specs.Vec.{made};
+ghost use mathlib.Core.Bool.{true};
 ghost use mathlib.Core.Path.{_≡_};
 use crate::refusal::RefusalFromFault;
 use crate::verdict::Verdict;
@@ -11,9 +13,9 @@ use opening::open;
 use std::alloc::AllocError;
 use std::alloc::Global;
 
-/// The verdict on the bytes of a problem file.
+/// The verdict on the bytes of a problem file. Only a file that is accepted needs memory.
 pub fn verdict(heap: Global, problem: &[u8]) -> Result<Verdict, AllocError>
-    ensures { λ r. ⌜ made r (λ v. v ≡ verdictOf (opened (now (problem .entry)))) ⌝ }
+    ensures { λ r. ⌜ Cases r (λ v. v ≡ verdictOf (opened (now (problem .entry)))) (λ _. isOk (opened (now (problem .entry))) ≡ true) ⌝ }
 {
     match open(heap, problem) {
         Ok(problem) => Ok(Verdict::Accepted {

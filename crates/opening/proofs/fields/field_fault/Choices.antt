@@ -1,11 +1,10 @@
-use Prim.Native.Nat.{_-_, _≤_}
-use mathlib.Core.Path.{_≡_}
+use Prim.Native.Nat.{_-_}
 use Rattle.problem_file.specs.Layout.{total}
 use Rattle.opening.proofs.Walks.{Walked}
 use Rattle.opening.proofs.fields.field_fault.Given as given
 
 abbrev pub Inv-loop-item : given.InvT-loop-item
-Inv-loop-item l = Walked (l .header .counts) (l .file) (l .reader .header .counts) (l .reader .file .now) (l .reader .position)
+Inv-loop-item l = Walked (l .header .counts) (l .file) (l .reader)
 
 abbrev pub μ-loop-item : given.MeasureT-loop-item
 μ-loop-item l = total (l .header .counts) - l .reader .position

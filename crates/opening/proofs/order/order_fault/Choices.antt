@@ -1,7 +1,10 @@
-use mathlib.Core.Path.{_≡_}
-use Rattle.std.specs.declared.option.Option.the-variants.{None}
-use Rattle.opening.specs.Opened.{lowest, misplaced}
+use Prim.Native.Nat.{_-_}
+use Rattle.problem_file.specs.Layout.{total}
+use Rattle.opening.proofs.Ordered.{Ordered}
 use Rattle.opening.proofs.order.order_fault.Given as given
 
-abbrev pub Inv-loop-i : given.InvT-loop-i
-Inv-loop-i l = lowest (misplaced (l .windows)) (l .i) ≡ None
+abbrev pub Inv-loop-item : given.InvT-loop-item
+Inv-loop-item l = Ordered (l .entry .reader .header .counts) (l .file) (l .reader) (l .before)
+
+abbrev pub μ-loop-item : given.MeasureT-loop-item
+μ-loop-item l = total (l .reader .header .counts) - l .reader .position

@@ -12,7 +12,7 @@ use Rattle.std.proofs.shelf.Tests.{cases-lt}
 use Rattle.std.specs.Finite.{nth}
 use Rattle.std.specs.Iters.{counting}
 use Rattle.std.specs.Options.{mapped}
-use Rattle.std.specs.declared.option.Option.the-variants.{Some, None}
+use Rattle.std.specs.declared.option.Option.the-variants.{Some}
 use Rattle.problem_file.proofs.Places.{Inside, inside, some-section, record-there, none-past}
 use Rattle.problem_file.specs.declared.counts.Counts.{Counts}
 use Rattle.problem_file.specs.declared.layout.Section.{Section}

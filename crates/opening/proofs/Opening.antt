@@ -1,12 +1,10 @@
 -- From the checks to what opening promises.
-use Prim.Native.Nat.{ℕ, _+_, _≤_, _<_}
+use Prim.Native.Nat.{ℕ, _+_}
 use mathlib.Core.List.{List}
-use mathlib.Core.Path.{_≡_, refl, sym, ap, subst, _∙_}
-use lib.ListN.{length, getD}
+use mathlib.Core.Path.{_≡_, sym, ap, subst, _∙_}
+use lib.ListN.{length}
 use native.Mathlib.Omega.{arith}
-use Rattle.std.specs.Finite.{nth}
 use Rattle.std.specs.Options.{mapped}
-use Rattle.std.specs.declared.option.Option.{Option}
 use Rattle.std.specs.declared.option.Option.the-variants.{Some, None}
 use Rattle.std.specs.Results.{isOk}
 use Rattle.std.specs.declared.result.Result.the-variants.{Ok, Err}
@@ -16,7 +14,6 @@ use Rattle.problem_file.proofs.Headers.{formed}
 use Rattle.problem_file.specs.declared.counts.Counts.{Counts}
 use Rattle.problem_file.specs.declared.fault.FileFault.{FileFault}
 use Rattle.problem_file.specs.declared.layout.Section.the-variants.{Windows}
-use Rattle.problem_file.specs.Encoding.{encode}
 use Rattle.problem_file.specs.Header.{headerOf}
 use Rattle.problem_file.specs.Layout.{first, total}
 use Rattle.problem_file.specs.Records.{recordIn}
@@ -28,7 +25,7 @@ use Rattle.opening.specs.Opened.{lowest, misfit, misplaced, stated, fieldFault
 use Rattle.opening.specs.declared.fault.OpenError.{OpenError}
 use Rattle.opening.specs.declared.fault.OpenError.the-variants.{Refused, Memory}
 use Rattle.opening.specs.Promise.{Encodes, Outcome, OpensEncodings}
-use Rattle.opening.specs.Entries.{HoldsShown, entries, entryOf}
+use Rattle.opening.specs.Entries.{HoldsShown, entryOf}
 use Rattle.opening.proofs.Holds.{holds-shown}
 use Rattle.opening.proofs.Lowest.{mapped-none, neither}
 use Rattle.opening.proofs.Reopened.{reopened}

@@ -1,12 +1,11 @@
 -- The windows' order: what it says window by window, and a walk that stops at the first window out of place.
 use Prim.Native.Nat.{ℕ, zero, suc, _+_, _-_, _≤_, _<_}
-use mathlib.Core.Bool.{Bool, true, false, not}
-use mathlib.Core.List.{List, map}
+use mathlib.Core.Bool.{true, false}
+use mathlib.Core.List.{List}
 use mathlib.Core.Logic.{⊎-elim}
 use mathlib.Core.Path.{_≡_, refl, sym, ap, subst, _∙_}
 use denote.Ref.{RefT}
 use lib.ListN.{length, getD}
-use native.Mathlib.Nat.{sub-self}
 use native.Mathlib.Omega.{arith}
 use Rattle.std.proofs.shelf.Counted.{length-map-counting, getD-map-counting}
 use Rattle.std.proofs.shelf.Lists.{getD-default}
@@ -16,7 +15,7 @@ use Rattle.std.specs.declared.option.Option.{Option}
 use Rattle.std.specs.declared.option.Option.the-variants.{Some, None}
 use Rattle.problem.specs.declared.window.Window.{Window}
 use Rattle.problem.specs.Limits.{Follows, InOrder}
-use Rattle.problem_file.proofs.Places.{Inside, inside, record-there, none-left}
+use Rattle.problem_file.proofs.Places.{Inside, inside, record-there}
 use Rattle.problem_file.proofs.Shows.{there}
 use Rattle.problem_file.proofs.Standing.{Standing, standing-more}
 use Rattle.problem_file.specs.declared.counts.Counts.{Counts}
@@ -25,7 +24,7 @@ use Rattle.problem_file.specs.declared.layout.Section.the-variants.{Tasks, Wind
 use Rattle.problem_file.specs.declared.reader.Reader.{Reader}
 use Rattle.problem_file.specs.declared.record.Record.{Record}
 use Rattle.problem_file.specs.declared.record.Record.the-variants.{Task as OfTask, Window as OfWindow, Dependency as OfDependency, Exclusion as OfExclusion}
-use Rattle.problem_file.specs.Layout.{count, first, total, fileEnd, sectionOf, recordBytes}
+use Rattle.problem_file.specs.Layout.{count, first, fileEnd, sectionOf, recordBytes}
 use Rattle.problem_file.specs.Reader.{Stepped}
 use Rattle.problem_file.specs.Records.{Shown, aTask, aWindow, aDependency, anExclusion, shown, reading, recordIn}
 use Rattle.opening.specs.declared.fault.ProblemFault.the-variants.{Order}

@@ -1,9 +1,9 @@
 -- The encoding of a problem within its limits opens, and gives that problem.
-use Prim.Native.Nat.{ℕ, zero, suc, _+_, _-_, _*_, _^_, _≤_, _<_}
-use mathlib.Core.Bool.{Bool, true, false, not}
+use Prim.Native.Nat.{ℕ, _+_, _-_, _*_, _^_, _≤_, _<_}
+use mathlib.Core.Bool.{true, not}
 use mathlib.Core.List.{List, [], _∷_, _++_, map, append-assoc, append-nil}
 use mathlib.Core.Path.{_≡_, refl, sym, ap, subst, _∙_}
-use lib.ListN.{length, take, drop, getD, length-append, length-drop}
+use lib.ListN.{length, take, drop, getD, length-append}
 use native.Mathlib.Omega.{arith}
 use Rattle.std.proofs.shelf.Bits.{mul-le}
 use Rattle.std.proofs.shelf.Counted.{length-map-counting, getD-map-counting}
@@ -12,8 +12,8 @@ use Rattle.std.proofs.shelf.Lists.{drop-drop, drop-at, same-lists}
 use Rattle.std.proofs.shelf.Tests.{le-leb}
 use Rattle.std.specs.Iters.{counting}
 use Rattle.std.specs.Options.{mapped, orOther}
-use Rattle.std.specs.declared.option.Option.the-variants.{Some, None}
-use Rattle.std.specs.declared.result.Result.the-variants.{Ok, Err}
+use Rattle.std.specs.declared.option.Option.the-variants.{None}
+use Rattle.std.specs.declared.result.Result.the-variants.{Ok}
 use Rattle.std.specs.shelf.Lists.{All, joined}
 use Rattle.words.proofs.Chunks.{piece-of, length-pieces}
 use Rattle.words.proofs.Encoded.{length-encoded, words-of-bytes}
@@ -30,8 +30,7 @@ use Rattle.problem_file.specs.declared.counts.Counts.{Counts}
 use Rattle.problem_file.specs.declared.layout.Section.{Section}
 use Rattle.problem_file.specs.declared.layout.Section.the-variants.{Tasks, Windows, Dependencies, Exclusions}
 use Rattle.problem_file.specs.Encoding.{taskWords, windowWords, dependencyWords, exclusionWords, taskBytes, windowBytes, dependencyBytes, exclusionBytes, headerWords, encode}
-use Rattle.problem_file.specs.Header.{headerOf}
-use Rattle.problem_file.specs.Layout.{CountsFit, count, first, size, start, total, fileEnd, recordBytes}
+use Rattle.problem_file.specs.Layout.{first, start, total, fileEnd, recordBytes}
 use Rattle.problem_file.specs.Records.{Shown, taskOf, windowOf, dependencyOf, exclusionOf, reading}
 use Rattle.opening.specs.declared.fault.ProblemFault.the-variants.{Field, Order}
 use Rattle.opening.specs.Opened.{lowest, misfit, outside, stated, fieldFault, orderFault, judged, headerOpened, opened, taskIn, windowIn, dependencyIn, exclusionIn}
@@ -57,17 +56,19 @@ tasks-long m within =
     (λ t fits. length-encoded (taskWords (m .dimensions .processors) t) ∙ omega (arith, task-words (m .dimensions) t (within .dimensions) (fits .durations)))
     (m .tasks) (within .tasks)
 
+-- what holds of every element
+always : {X : Type 0} (P : X → Type 0) → ((x : X) → P x) → (xs : List X) → All P xs
+always P each [] = tt
+always P each (x ∷ xs) = (each x, always P each xs)
+
 windows-long : (ws : List Window) → All (λ w. length (encoded (windowWords w)) ≡ 16) ws
-windows-long [] = tt
-windows-long (w ∷ ws) = (length-encoded (windowWords w), windows-long ws)
+windows-long = always _ (λ w. length-encoded (windowWords w))
 
 dependencies-long : (xs : List Dependency) → All (λ x. length (encoded (dependencyWords x)) ≡ 16) xs
-dependencies-long [] = tt
-dependencies-long (x ∷ xs) = (length-encoded (dependencyWords x), dependencies-long xs)
+dependencies-long = always _ (λ x. length-encoded (dependencyWords x))
 
 exclusions-long : (xs : List Exclusion) → All (λ x. length (encoded (exclusionWords x)) ≡ 12) xs
-exclusions-long [] = tt
-exclusions-long (x ∷ xs) = (length-encoded (exclusionWords x), exclusions-long xs)
+exclusions-long = always _ (λ x. length-encoded (exclusionWords x))
 
 -- how long the sections are
 record Long (m : Model) : Type 0 where
@@ -215,26 +216,24 @@ task-at m within i d lt =
     let marked : wordAt bytes 4 ≤ 1 = subst (λ (b : List ℕ). wordAt b 4 ≤ 1) (sym e) (mark-word (m .dimensions) t (within .dimensions) fits) in
     (same, (decides-mark bytes long .0 (le-leb (wordAt bytes 4) 1 marked), subst (TaskFits (m .dimensions)) (sym same) fits))
 
+-- bytes that were written of an element in its range are read as that element
+read-back : {X : Type 0} (P : X → Type 0) (of : List ℕ → X) (words : X → List ℕ) (xs : List X) (bytes : List ℕ) → ((x : X) → P x → of (encoded (words x)) ≡ x) → All P xs → (j : ℕ) (d : X) → j < length xs → bytes ≡ encoded (words (getD xs j d)) → (of bytes ≡ getD xs j d) × P (of bytes)
+read-back P of words xs bytes back all j d lt e =
+    let fits = all-getD P xs j d lt all in
+    let same : of bytes ≡ getD xs j d = ap of e ∙ back (getD xs j d) fits in
+    (same, subst P (sym same) fits)
+
 window-at : (m : Model) → Within m → (i : ℕ) (d : Window) → i - first (countsOf m) Windows < length (m .windows) → (windowIn (countsOf m) (encode m) i ≡ getD (m .windows) (i - first (countsOf m) Windows) d) × Read m Windows i
 window-at m within i d lt =
-    let w : Window = getD (m .windows) (i - first (countsOf m) Windows) d in
-    let fits : WindowFits (m .dimensions) w = all-getD (WindowFits (m .dimensions)) (m .windows) (i - first (countsOf m) Windows) d lt (within .windows) in
-    let same : windowIn (countsOf m) (encode m) i ≡ w = ap windowOf (window-record m within (i - first (countsOf m) Windows) d lt) ∙ window-back (m .dimensions) w (within .dimensions) fits in
-    (same, subst (WindowFits (m .dimensions)) (sym same) fits)
+    read-back (WindowFits (m .dimensions)) windowOf windowWords (m .windows) (recordBytes (countsOf m) (encode m) Windows i) (λ w. window-back (m .dimensions) w (within .dimensions)) (within .windows) (i - first (countsOf m) Windows) d lt (window-record m within (i - first (countsOf m) Windows) d lt)
 
 dependency-at : (m : Model) → Within m → (i : ℕ) (d : Dependency) → i - first (countsOf m) Dependencies < length (m .dependencies) → (dependencyIn (countsOf m) (encode m) i ≡ getD (m .dependencies) (i - first (countsOf m) Dependencies) d) × Read m Dependencies i
 dependency-at m within i d lt =
-    let x : Dependency = getD (m .dependencies) (i - first (countsOf m) Dependencies) d in
-    let fits : DependencyFits (m .dimensions) x = all-getD (DependencyFits (m .dimensions)) (m .dependencies) (i - first (countsOf m) Dependencies) d lt (within .dependencies) in
-    let same : dependencyIn (countsOf m) (encode m) i ≡ x = ap dependencyOf (dependency-record m within (i - first (countsOf m) Dependencies) d lt) ∙ dependency-back (m .dimensions) x (within .dimensions) fits in
-    (same, subst (DependencyFits (m .dimensions)) (sym same) fits)
+    read-back (DependencyFits (m .dimensions)) dependencyOf dependencyWords (m .dependencies) (recordBytes (countsOf m) (encode m) Dependencies i) (λ x. dependency-back (m .dimensions) x (within .dimensions)) (within .dependencies) (i - first (countsOf m) Dependencies) d lt (dependency-record m within (i - first (countsOf m) Dependencies) d lt)
 
 exclusion-at : (m : Model) → Within m → (i : ℕ) (d : Exclusion) → i - first (countsOf m) Exclusions < length (m .exclusions) → (exclusionIn (countsOf m) (encode m) i ≡ getD (m .exclusions) (i - first (countsOf m) Exclusions) d) × Read m Exclusions i
 exclusion-at m within i d lt =
-    let x : Exclusion = getD (m .exclusions) (i - first (countsOf m) Exclusions) d in
-    let fits : ExclusionFits (m .dimensions) x = all-getD (ExclusionFits (m .dimensions)) (m .exclusions) (i - first (countsOf m) Exclusions) d lt (within .exclusions) in
-    let same : exclusionIn (countsOf m) (encode m) i ≡ x = ap exclusionOf (exclusion-record m within (i - first (countsOf m) Exclusions) d lt) ∙ exclusion-back (m .dimensions) x (within .dimensions) fits in
-    (same, subst (ExclusionFits (m .dimensions)) (sym same) fits)
+    read-back (ExclusionFits (m .dimensions)) exclusionOf exclusionWords (m .exclusions) (recordBytes (countsOf m) (encode m) Exclusions i) (λ x. exclusion-back (m .dimensions) x (within .dimensions)) (within .exclusions) (i - first (countsOf m) Exclusions) d lt (exclusion-record m within (i - first (countsOf m) Exclusions) d lt)
 
 read-at : (m : Model) → Within m → (s : Section) (i : ℕ) → Inside (countsOf m) s i → Read m s i
 unfolding countsOf

@@ -1,20 +1,15 @@
 -- A file that passes every check states a problem within its limits.
 use Prim.Native.Nat.{ℕ, zero, suc, _+_, _-_, _≤_, _<_}
-use mathlib.Core.Bool.{Bool, true, false, not, _&&_}
-use mathlib.Core.List.{List, [], _∷_, map}
-use mathlib.Core.Path.{_≡_, refl, sym, ap, subst, _∙_}
-use lib.Dec.{ltb}
-use lib.ListN.{length, getD}
-use native.Mathlib.Nat.{add-zero}
+use mathlib.Core.Bool.{false, not}
+use mathlib.Core.List.{List, map}
+use mathlib.Core.Path.{_≡_, sym, ap, _∙_}
+use lib.ListN.{length}
 use native.Mathlib.Omega.{arith}
 use Rattle.std.proofs.shelf.Counted.{length-map-counting}
-use Rattle.std.proofs.shelf.Lists.{getD-default}
-use Rattle.std.proofs.shelf.Tests.{lt-ltb, not-false}
+use Rattle.std.proofs.shelf.Tests.{not-false}
 use Rattle.std.specs.Iters.{counting}
-use Rattle.std.specs.declared.option.Option.{Option}
-use Rattle.std.specs.declared.option.Option.the-variants.{Some, None}
+use Rattle.std.specs.declared.option.Option.the-variants.{None}
 use Rattle.std.specs.shelf.Lists.{All}
-use Rattle.problem.specs.declared.window.Window.{Window}
 use Rattle.problem.specs.Limits.{Within, TaskFits, WindowFits, DependencyFits, ExclusionFits}
 use Rattle.problem_file.proofs.Headers.{Formed}
 use Rattle.problem_file.proofs.Places.{Inside, inside-total, record-there}
@@ -22,9 +17,9 @@ use Rattle.problem_file.specs.declared.counts.Counts.{Counts}
 use Rattle.problem_file.specs.declared.layout.Section.{Section}
 use Rattle.problem_file.specs.declared.layout.Section.the-variants.{Tasks, Windows, Dependencies, Exclusions}
 use Rattle.problem_file.specs.Layout.{count, first, total, fileEnd, recordBytes}
-use Rattle.problem_file.specs.Records.{Shown, reading, recordIn}
-use Rattle.opening.specs.Opened.{lowest, misfit, outside, misplaced, noWindow, stated, taskIn, windowIn, dependencyIn, exclusionIn}
-use Rattle.opening.specs.Ranges.{Fits, inRange, follows}
+use Rattle.problem_file.specs.Records.{Shown, reading}
+use Rattle.opening.specs.Opened.{lowest, misfit, outside, misplaced, stated, taskIn, windowIn, dependencyIn, exclusionIn}
+use Rattle.opening.specs.Ranges.{Fits, inRange}
 use Rattle.opening.proofs.Lowest.{each-fails}
 use Rattle.opening.proofs.Ordered.{in-order}
 use Rattle.opening.proofs.Tests.{decides-shown}

@@ -1,7 +1,7 @@
 -- A file that passes every check is the encoding of the problem that it states.
 use Prim.Native.Nat.{ℕ, _+_, _-_, _*_, _≤_, _<_}
 use mathlib.Core.List.{List, [], _∷_, _++_, map, append-nil}
-use mathlib.Core.Path.{_≡_, refl, sym, ap, subst, _∙_}
+use mathlib.Core.Path.{_≡_, refl, sym, ap, _∙_}
 use lib.ListN.{length, take, drop, length-drop, length-append}
 use native.Mathlib.Omega.{arith}
 use Rattle.std.proofs.shelf.Counted.{length-map-counting}
@@ -13,7 +13,6 @@ use Rattle.std.specs.shelf.Lists.{joined}
 use Rattle.words.proofs.Chunks.{pieces-then, joined-map}
 use Rattle.words.proofs.Encoded.{bytes-of-words, octets-part, word-of-part}
 use Rattle.words.specs.Words.{encoded, wordAt, Octets}
-use Rattle.problem.specs.Limits.{Model}
 use Rattle.problem_file.proofs.Coded.{task-again, window-again, dependency-again, exclusion-again}
 use Rattle.problem_file.proofs.Headers.{Formed}
 use Rattle.problem_file.proofs.Places.{Inside, record-end}

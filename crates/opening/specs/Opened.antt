@@ -1,7 +1,6 @@
-use Prim.Native.Nat.{ℕ, zero, suc, _+_, _-_}
-use mathlib.Core.Bool.{Bool, true, false, cond, not, _&&_}
+use Prim.Native.Nat.{ℕ, zero, suc, _+_}
+use mathlib.Core.Bool.{Bool, false, cond, not}
 use mathlib.Core.List.{List, map}
-use lib.Dec.{ltb}
 use lib.ListN.{length, getD}
 use Rattle.std.specs.Iters.{counting}
 use Rattle.std.specs.Options.{mapped, orOther}
@@ -26,20 +25,23 @@ use Rattle.opening.specs.declared.fault.ProblemFault.{ProblemFault}
 use Rattle.opening.specs.declared.fault.ProblemFault.the-variants.{Field, Order}
 use Rattle.opening.specs.Ranges.{inRange, follows}
 
--- what the records of each kind state: the tasks are records 0, 1, 2 and on, the windows follow them, and so on
+-- what record `i` of the file states as a task
 abbrev pub taskIn : Counts → List ℕ → ℕ → Task
 taskIn c file i = taskOf (c .dimensions .processors) (recordBytes c file Tasks i)
 
+-- what record `i` of the file states as a window
 abbrev pub windowIn : Counts → List ℕ → ℕ → Window
 windowIn c file i = windowOf (recordBytes c file Windows i)
 
+-- what record `i` of the file states as a dependency
 abbrev pub dependencyIn : Counts → List ℕ → ℕ → Dependency
 dependencyIn c file i = dependencyOf (recordBytes c file Dependencies i)
 
+-- what record `i` of the file states as an exclusion
 abbrev pub exclusionIn : Counts → List ℕ → ℕ → Exclusion
 exclusionIn c file i = exclusionOf (recordBytes c file Exclusions i)
 
--- the problem that the file states
+-- the problem that the file states: each list from the records of its section, counted from the section's first
 unfoldable pub stated : Counts → List ℕ → Model
 stated c file = record {
   dimensions = c .dimensions;

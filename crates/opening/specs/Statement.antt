@@ -1,4 +1,4 @@
-use mathlib.Core.List.{List, [], _∷_, _++_}
+use mathlib.Core.List.{[], _∷_, _++_}
 use Rattle.std.specs.Of.Vec.{vec-items}
 use Rattle.problem.specs.declared.dimensions.Dimensions.{Dimensions}
 use Rattle.problem.specs.Limits.{Model}

@@ -1,19 +1,18 @@
 -- A record and its bytes: what is written is read again, and what is read is written again.
 use Prim.Native.Nat.{ℕ, zero, suc, _+_, _*_, _^_, _≤_, _<_}
 use mathlib.Core.Bool.{Bool, true, false, cond}
-use mathlib.Core.List.{List, [], _∷_, _++_, map}
+use mathlib.Core.List.{List, _∷_, map}
 use mathlib.Core.Logic.{_⊎_, ⊎-elim}
-use mathlib.Core.Path.{_≡_, refl, sym, ap, subst, _∙_}
+use mathlib.Core.Path.{_≡_, refl, sym, ap, _∙_}
 use lib.Dec.{eqb, ltb}
 use lib.ListN.{length, take, getD}
 use native.Mathlib.Omega.{arith}
 use Rattle.std.proofs.shelf.Lists.{getD-take, length-take-le}
-use Rattle.std.proofs.shelf.Tests.{cases-lt, lt-ltb, le-ltb, ne-eqb, cond-true, cond-false, cases-bool, eqb-true}
-use Rattle.std.proofs.shelf.Ways.{tells}
+use Rattle.std.proofs.shelf.Tests.{cases-lt, lt-ltb, le-ltb, ne-eqb, cond-true, cond-false, eqb-true}
 use Rattle.std.specs.Iters.{counting}
 use Rattle.std.specs.declared.option.Option.{Option}
 use Rattle.std.specs.declared.option.Option.the-variants.{Some, None}
-use Rattle.words.proofs.Encoded.{bytes-of-words, length-encoded, word-in}
+use Rattle.words.proofs.Encoded.{four, bytes-of-words, word-in}
 use Rattle.words.specs.Words.{encoded, wordAt, Octets}
 use Rattle.problem.specs.declared.dependency.Dependency.{Dependency}
 use Rattle.problem.specs.declared.dimensions.Dimensions.{Dimensions}
@@ -78,14 +77,6 @@ task-words d t limits fits =
     let n : length (take (d .processors) (t .durations)) ≡ d .processors = length-take-le (d .processors) (t .durations) (omega (arith, fits .places, limits .1 .1)) in
     omega arith
 
-four-places : (xs : List ℕ) → length xs ≡ 4 → getD xs 0 0 ∷ getD xs 1 0 ∷ getD xs 2 0 ∷ getD xs 3 0 ∷ [] ≡ xs
-four-places [] e = absurd (omega arith)
-four-places (a ∷ []) e = absurd (omega arith)
-four-places (a ∷ b ∷ []) e = absurd (omega arith)
-four-places (a ∷ b ∷ c ∷ []) e = absurd (omega arith)
-four-places (a ∷ b ∷ c ∷ d ∷ []) e = refl
-four-places (a ∷ b ∷ c ∷ d ∷ x ∷ xs) e = absurd (omega arith)
-
 -- a duration that is written is read again, and an unused place is 0
 duration-back : (d : Dimensions) (t : Task) → DimensionsFit d → DurationsFit d (t .durations) → (k : ℕ) → 4 * (4 + k) ≡ 16 + 4 * k → getD (taskWords (d .processors) t) (4 + k) 0 ≡ getD (take (d .processors) (t .durations)) k 0 → durationOr (encoded (taskWords (d .processors) t)) (d .processors) k ≡ getD (t .durations) k 0
 duration-back d t limits fits k place word =
@@ -120,7 +111,7 @@ task-back d t limits fits =
     let d1 = duration-back d t limits (fits .durations) 1 refl refl in
     let d2 = duration-back d t limits (fits .durations) 2 refl refl in
     let d3 = duration-back d t limits (fits .durations) 3 refl refl in
-    let durations : taskOf (d .processors) (encoded ws) .durations ≡ t .durations = cc (four-places (t .durations) (fits .durations .places)) in
+    let durations : taskOf (d .processors) (encoded ws) .durations ≡ t .durations = cc (four (t .durations) (fits .durations .places)) in
     λ i. record { partition = e0 i; whole = whole i; release = e2 i; deadline = deadline i; durations = durations i }
 
 -- the mark that is written

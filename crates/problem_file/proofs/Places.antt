@@ -1,22 +1,19 @@
 -- Where records stand: in a section, one after the other, and within the file.
 use Prim.Native.Nat.{ℕ, _+_, _-_, _*_, _≤_, _<_}
-use mathlib.Core.Bool.{Bool, true, false, cond}
 use mathlib.Core.List.{List}
-use mathlib.Core.Logic.{_⊎_, inl, inr, ⊎-elim}
-use mathlib.Core.Path.{_≡_, refl, sym, ap, subst, _∙_}
-use lib.Dec.{ltb}
+use mathlib.Core.Logic.{_⊎_, ⊎-elim}
+use mathlib.Core.Path.{_≡_, ap}
 use lib.ListN.{length}
 use native.Mathlib.Nat.{mul-add, mul-one, mul-le-mul-left}
 use native.Mathlib.Omega.{arith}
 use Rattle.std.proofs.shelf.Tests.{cases-lt}
 use Rattle.std.proofs.shelf.Ways.{tells}
-use Rattle.std.specs.declared.option.Option.{Option}
 use Rattle.std.specs.declared.option.Option.the-variants.{Some, None}
 use Rattle.problem_file.specs.declared.counts.Counts.{Counts}
 use Rattle.problem_file.specs.declared.layout.Section.{Section}
 use Rattle.problem_file.specs.declared.layout.Section.the-variants.{Tasks, Windows, Dependencies, Exclusions}
 use Rattle.problem_file.specs.Layout.{count, size, first, start, total, fileEnd, sectionOf, recordAt, recordBytes}
-use Rattle.problem_file.specs.Records.{Shown, reading, recordOf, recordIn}
+use Rattle.problem_file.specs.Records.{reading, recordOf, recordIn}
 use Rattle.problem_file.proofs.Shows.{record-at}
 
 -- record `i` is one of section `s`

@@ -21,29 +21,35 @@ abbrev pub deadlineWord : Option ℕ → ℕ
 deadlineWord None = 4294967295
 deadlineWord (Some date) = date
 
--- a record's words: its fields in their order
+-- a task's words: its fields in their order, and its duration on each processor
 abbrev pub taskWords : ℕ → Task → List ℕ
 taskWords processors t = t .partition ∷ mark (t .whole) ∷ t .release ∷ deadlineWord (t .deadline) ∷ take processors (t .durations)
 
+-- a window's words: its fields in their order
 abbrev pub windowWords : Window → List ℕ
 windowWords w = w .processor ∷ w .partition ∷ w .begin ∷ w .end ∷ []
 
+-- a dependency's words: its fields in their order
 abbrev pub dependencyWords : Dependency → List ℕ
 dependencyWords x = x .source ∷ x .destination ∷ x .depth ∷ x .transfer ∷ []
 
+-- an exclusion's words: its fields in their order
 abbrev pub exclusionWords : Exclusion → List ℕ
 exclusionWords x = x .first ∷ x .second ∷ x .distance ∷ []
 
--- a section's bytes: its records one after the other
+-- the tasks one after the other
 unfoldable pub taskBytes : Model → List ℕ
 taskBytes m = joined (λ t. encoded (taskWords (m .dimensions .processors) t)) (m .tasks)
 
+-- the windows one after the other
 unfoldable pub windowBytes : Model → List ℕ
 windowBytes m = joined (λ w. encoded (windowWords w)) (m .windows)
 
+-- the dependencies one after the other
 unfoldable pub dependencyBytes : Model → List ℕ
 dependencyBytes m = joined (λ x. encoded (dependencyWords x)) (m .dependencies)
 
+-- the exclusions one after the other
 unfoldable pub exclusionBytes : Model → List ℕ
 exclusionBytes m = joined (λ x. encoded (exclusionWords x)) (m .exclusions)
 

@@ -6,7 +6,6 @@ use Rattle.std.specs.Written.{decimal}
 use Rattle.std.specs.declared.option.Option.{Option}
 use Rattle.std.specs.declared.option.Option.the-variants.{Some, None}
 use Rattle.report.specs.declared.refusal.Label.{Label}
-use Rattle.report.specs.declared.refusal.Refusal.{Refusal}
 use Rattle.report.specs.declared.verdict.Verdict.{Verdict}
 use Rattle.report.specs.declared.verdict.Verdict.the-variants.{Accepted, Refused}
 use Rattle.report.specs.Refusals.{letter}
@@ -16,10 +15,11 @@ abbrev pub orDash : Option ℕ → List ℕ
 orDash None = codes "-"
 orDash (Some n) = decimal n
 
--- the two numbers of a label
+-- the rule's number of a label, if there is one
 abbrev pub ruleOf : Option Label → Option ℕ
 ruleOf label = mapped (λ x. x .rule) label
 
+-- the place's number of a label, if there is one
 abbrev pub placeOf : Option Label → Option ℕ
 placeOf label = mapped (λ x. x .place) label
 

@@ -1,10 +1,9 @@
 -- Lists that are made of pieces of one length.
-use Prim.Native.Nat.{ℕ, zero, suc, _+_, _-_, _*_, _≤_, _<_}
+use Prim.Native.Nat.{ℕ, zero, suc, _+_, _-_, _*_, _<_}
 use mathlib.Core.List.{List, [], _∷_, _++_, map, append-assoc, append-nil}
-use mathlib.Core.Path.{_≡_, refl, sym, ap, subst, _∙_}
-use lib.ListN.{length, take, drop, getD, length-drop, length-append}
-use native.Mathlib.Nat.{mul-zero, mul-suc, zero-add, add-zero}
-use native.Mathlib.Numerals.{add-one}
+use mathlib.Core.Path.{_≡_, refl, sym, ap, _∙_}
+use lib.ListN.{length, take, drop, getD, length-append}
+use native.Mathlib.Nat.{mul-zero, mul-suc, add-zero}
 use native.Mathlib.Omega.{arith}
 use Rattle.std.proofs.shelf.Lists.{take-append-drop, drop-drop, drop-all, take-at, drop-at}
 use Rattle.std.specs.Iters.{counting}

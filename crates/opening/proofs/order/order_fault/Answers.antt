@@ -1,12 +1,11 @@
 use mathlib.Core.Path.{ap, sym, subst, _∙_}
 use native.Mathlib.Omega.{arith}
-use Rattle.std.specs.declared.option.Option.{Option}
 use Rattle.std.specs.declared.option.Option.the-variants.{Some, None}
 use Rattle.problem_file.proofs.Standing.{Standing, standing-at, standing-shows}
 use Rattle.problem_file.specs.declared.counts.Counts.{Counts}
 use Rattle.problem_file.specs.declared.layout.Section.the-variants.{Windows}
 use Rattle.problem_file.specs.Layout.{first, fileEnd}
-use Rattle.problem_file.specs.Records.{Shown, aWindow, shown}
+use Rattle.problem_file.specs.Records.{shown}
 use Rattle.opening.specs.Opened.{orderFault, stated}
 use Rattle.opening.proofs.Ordered.{ordered-none, ordered-more, ordered-found, ordered-end, NoWindow, no-window}
 use Rattle.opening.proofs.order.order_fault.Needs as need

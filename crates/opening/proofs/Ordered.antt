@@ -10,11 +10,14 @@ use native.Mathlib.Omega.{arith}
 use Rattle.std.proofs.shelf.Counted.{length-map-counting, getD-map-counting}
 use Rattle.std.proofs.shelf.Lists.{getD-default}
 use Rattle.std.proofs.shelf.Tests.{cases-lt, not-false, not-from-true}
+use Rattle.std.proofs.shelf.Elements.{all-getD}
 use Rattle.std.specs.Options.{mapped}
+use Rattle.std.specs.shelf.Lists.{All}
 use Rattle.std.specs.declared.option.Option.{Option}
 use Rattle.std.specs.declared.option.Option.the-variants.{Some, None}
 use Rattle.problem.specs.declared.window.Window.{Window}
-use Rattle.problem.specs.Limits.{Follows, InOrder}
+use Rattle.problem.specs.declared.dimensions.Dimensions.{Dimensions}
+use Rattle.problem.specs.Limits.{Follows, InOrder, WindowFits}
 use Rattle.problem_file.proofs.Places.{Inside, inside, record-there}
 use Rattle.problem_file.proofs.Shows.{there}
 use Rattle.problem_file.proofs.Standing.{Standing, standing-more}
@@ -41,20 +44,43 @@ none-misplaced ws order = lowest-none-from (misplaced ws) (length ws) at
     at : (k : ℕ) → k < length ws → misplaced ws k ≡ false
     at zero lt = refl
     at (suc k) lt =
-        let next : k + 1 ≡ suc k = omega arith in
-        let holds = subst (λ (j : ℕ). Follows (getD ws k noWindow) (getD ws j noWindow)) next (order k noWindow (omega arith)) in
-        not-from-true (follows (getD ws k noWindow) (getD ws (suc k) noWindow)) (decides-follows (getD ws k noWindow) (getD ws (suc k) noWindow) .1 holds)
+        not-from-true (follows (getD ws k noWindow) (getD ws (suc k) noWindow)) (decides-follows (getD ws k noWindow) (getD ws (suc k) noWindow) .1 (order k (suc k) noWindow (omega arith) lt))
 
--- and windows of which none is misplaced are in order
-pub in-order : (ws : List Window) → lowest (misplaced ws) (length ws) ≡ None → InOrder ws
+-- where none is misplaced, each window follows the one before it
+neighbours : (ws : List Window) → lowest (misplaced ws) (length ws) ≡ None → (k : ℕ) (v : Window) → suc k < length ws → Follows (getD ws k v) (getD ws (suc k) v)
 unfolding misplaced
-in-order ws none k v lt =
-    let next : suc k ≡ k + 1 = omega arith in
-    let passes = each-fails (misplaced ws) (length ws) none (suc k) (omega arith) in
+neighbours ws none k v lt =
+    let passes = each-fails (misplaced ws) (length ws) none (suc k) lt in
     let holds = decides-follows (getD ws k noWindow) (getD ws (suc k) noWindow) .0 (not-false (follows (getD ws k noWindow) (getD ws (suc k) noWindow)) passes) in
-    let e : getD ws k noWindow ≡ getD ws k v = getD-default ws k noWindow v (omega arith) in
-    let f : getD ws (suc k) noWindow ≡ getD ws (k + 1) v = ap (λ j. getD ws j noWindow) next ∙ getD-default ws (k + 1) noWindow v lt in
-    subst (λ (w : Window). Follows (getD ws k v) w) f (subst (λ (u : Window). Follows u (getD ws (suc k) noWindow)) e holds)
+    subst (λ (w : Window). Follows (getD ws k v) w) (getD-default ws (suc k) noWindow v lt)
+    (subst (λ (u : Window). Follows u (getD ws (suc k) noWindow)) (getD-default ws k noWindow v (omega arith)) holds)
+
+-- what follows a window with a tick follows what that window follows
+then-follows : (u v w : Window) → v .begin < v .end → Follows u v → Follows v w → Follows u w
+then-follows u v w some a b =
+    record {
+      processors = omega (arith, a .processors, b .processors);
+      apart = λ same.
+          let p : u .processor ≡ v .processor = omega (arith, a .processors, b .processors) in
+          let q : v .processor ≡ w .processor = omega (arith, a .processors, b .processors) in
+          omega (arith, a .apart p, b .apart q);
+    }
+
+-- so each follows every one before it
+pub in-order : (d : Dimensions) (ws : List Window) → All (WindowFits d) ws → lowest (misplaced ws) (length ws) ≡ None → InOrder ws
+in-order d ws fit none i j v lt below =
+    let far : i + suc (j - i - 1) ≡ j = omega arith in
+    subst (λ (k : ℕ). Follows (getD ws i v) (getD ws k v)) far (steps (j - i - 1) (omega arith))
+  where
+    steps : (n : ℕ) → i + suc n < length ws → Follows (getD ws i v) (getD ws (i + suc n) v)
+    steps zero lt =
+        let one : suc i ≡ i + 1 = omega arith in
+        subst (λ (k : ℕ). Follows (getD ws i v) (getD ws k v)) one (neighbours ws none i v (omega arith))
+    steps (suc n) lt =
+        let next : suc (i + suc n) ≡ i + suc (suc n) = omega arith in
+        let some = all-getD (WindowFits d) ws (i + suc n) v (omega arith) fit .some in
+        let last = subst (λ (k : ℕ). Follows (getD ws (i + suc n) v) (getD ws k v)) next (neighbours ws none (i + suc n) v (omega arith)) in
+        then-follows (getD ws i v) (getD ws (i + suc n) v) (getD ws (i + suc (suc n)) v) some (steps n (omega arith)) last
 
 -- the windows that the file states, by their number in the list
 windows-long : (c : Counts) (file : List ℕ) → length (stated c file .windows) ≡ c .windows

@@ -49,6 +49,7 @@ stated-within c file formed fits order =
     let windows = length-map-counting (windowIn c file) (first c Windows) (count c Windows) in
     let dependencies = length-map-counting (dependencyIn c file) (first c Dependencies) (count c Dependencies) in
     let exclusions = length-map-counting (exclusionIn c file) (first c Exclusions) (count c Exclusions) in
+    let fit = all-counted (WindowFits d) (windowIn c file) (first c Windows) (count c Windows) (λ i low high. each Windows i (record { low = low; high = high })) in
     record {
       dimensions = formed .counts .0;
       task-count = tasks;
@@ -56,8 +57,8 @@ stated-within c file formed fits order =
       dependency-count = omega (arith, dependencies, formed .counts .2);
       exclusion-count = omega (arith, exclusions, formed .counts .3);
       tasks = all-counted (TaskFits d) (taskIn c file) (first c Tasks) (count c Tasks) (λ i low high. each Tasks i (record { low = low; high = high }) .1);
-      windows = all-counted (WindowFits d) (windowIn c file) (first c Windows) (count c Windows) (λ i low high. each Windows i (record { low = low; high = high }));
+      windows = fit;
       dependencies = all-counted (DependencyFits d) (dependencyIn c file) (first c Dependencies) (count c Dependencies) (λ i low high. each Dependencies i (record { low = low; high = high }));
       exclusions = all-counted (ExclusionFits d) (exclusionIn c file) (first c Exclusions) (count c Exclusions) (λ i low high. each Exclusions i (record { low = low; high = high }));
-      order = in-order (map (windowIn c file) (counting (first c Windows) (count c Windows))) order;
+      order = in-order d (map (windowIn c file) (counting (first c Windows) (count c Windows))) fit order;
     }

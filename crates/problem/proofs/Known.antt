@@ -90,7 +90,7 @@ within-prop m p q =
       windows = same (p .windows) (q .windows) (all-prop _ (window-prop (m .dimensions)) (m .windows)) i;
       dependencies = same (p .dependencies) (q .dependencies) (all-prop _ (dependency-prop (m .dimensions)) (m .dependencies)) i;
       exclusions = same (p .exclusions) (q .exclusions) (all-prop _ (exclusion-prop (m .dimensions)) (m .exclusions)) i;
-      order = same (p .order) (q .order) (search (props, follows-prop)) i;
+      order = same (p .order) (q .order) (search (props, follows-prop) depth 8) i;
     }
 
 pub knows : (p : Problem) → Within (model p)

@@ -67,14 +67,14 @@ pub record ExclusionFits (d : Dimensions) (x : Exclusion) : Type 0 where
   pub two : x .first ≡ x .second → ⊥
   pub distance : x .distance ≤ 3
 
--- window `w` may stand right after `v`: processors rise, and on one processor a window begins where the one before has ended
+-- window `w` may stand after `v`: processors do not fall, and on one processor a window begins where the one before has ended
 pub record Follows (v w : Window) : Type 0 where
   pub processors : v .processor ≤ w .processor
   pub apart : v .processor ≡ w .processor → v .end ≤ w .begin
 
--- each window but the first may stand after the one before it
+-- every window may stand after each one before it, so none overlaps another on its processor
 abbrev pub InOrder : List Window → Type 0
-InOrder ws = (k : ℕ) (v : Window) → k + 1 < length ws → Follows (getD ws k v) (getD ws (k + 1) v)
+InOrder ws = (i j : ℕ) (v : Window) → i < j → j < length ws → Follows (getD ws i v) (getD ws j v)
 
 -- a problem within its limits
 pub record Within (m : Model) : Type 0 where

@@ -20,7 +20,7 @@ pub fn verdict(heap: Global, problem: &[u8]) -> Result<Verdict, AllocError>
     match open(heap, problem) {
         Ok(problem) => Ok(Verdict::Accepted {
             rows: 0,
-            tasks: problem.tasks.len(),
+            tasks: problem.dimensions().tasks as usize,
         }),
         Err(OpenError::Refused(fault)) => Ok(Verdict::Refused(fault.into())),
         Err(OpenError::Memory) => Err(AllocError),

@@ -8,7 +8,7 @@ use Rattle.std.specs.Options.{mapped}
 use Rattle.std.specs.declared.option.Option.the-variants.{Some, None}
 use Rattle.std.specs.Results.{isOk}
 use Rattle.std.specs.declared.result.Result.the-variants.{Ok, Err}
-use Rattle.words.specs.Words.{Octets}
+use Rattle.words.proofs.Encoded.{Octets}
 use Rattle.problem.specs.Limits.{Model}
 use Rattle.problem_file.proofs.Headers.{formed}
 use Rattle.problem_file.specs.declared.counts.Counts.{Counts}

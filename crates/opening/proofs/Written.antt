@@ -11,8 +11,8 @@ use Rattle.std.specs.Iters.{counting}
 use Rattle.std.specs.declared.option.Option.the-variants.{None}
 use Rattle.std.specs.shelf.Lists.{joined}
 use Rattle.words.proofs.Chunks.{pieces-then, joined-map}
-use Rattle.words.proofs.Encoded.{bytes-of-words, octets-part, word-of-part}
-use Rattle.words.specs.Words.{encoded, wordAt, Octets}
+use Rattle.words.proofs.Encoded.{Octets, bytes-of-words, octets-part, word-of-part}
+use Rattle.words.specs.Words.{encoded, wordAt}
 use Rattle.problem_file.proofs.Coded.{task-again, window-again, dependency-again, exclusion-again}
 use Rattle.problem_file.proofs.Headers.{Formed}
 use Rattle.problem_file.proofs.Places.{Inside, record-end}

@@ -12,8 +12,8 @@ use Rattle.std.proofs.shelf.Tests.{cases-lt, lt-ltb, le-ltb, ne-eqb, cond-true,
 use Rattle.std.specs.Iters.{counting}
 use Rattle.std.specs.declared.option.Option.{Option}
 use Rattle.std.specs.declared.option.Option.the-variants.{Some, None}
-use Rattle.words.proofs.Encoded.{four, bytes-of-words, word-in}
-use Rattle.words.specs.Words.{encoded, wordAt, Octets}
+use Rattle.words.proofs.Encoded.{Octets, four, bytes-of-words, word-in}
+use Rattle.words.specs.Words.{encoded, wordAt}
 use Rattle.problem.specs.declared.dependency.Dependency.{Dependency}
 use Rattle.problem.specs.declared.dimensions.Dimensions.{Dimensions}
 use Rattle.problem.specs.declared.exclusion.Exclusion.{Exclusion}

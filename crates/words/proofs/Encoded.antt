@@ -11,8 +11,12 @@ use Rattle.std.proofs.shelf.Lists.{getD-take, getD-drop, getD-past, length-take
 use Rattle.std.proofs.shelf.Tests.{cases-lt}
 use Rattle.std.specs.Iters.{counting}
 use Rattle.std.specs.shelf.Lists.{All}
-use Rattle.words.specs.Words.{wordAt, wordBytes, encoded, Octets}
+use Rattle.words.specs.Words.{wordAt, wordBytes, encoded}
 use Rattle.words.proofs.Chunks.{pieces-are, piece-of, length-pieces, joined-map}
+
+-- each element is a byte
+abbrev pub Octets : List ℕ → Type 0
+Octets bytes = (k : ℕ) → getD bytes k 0 < 256
 
 digits : (w q1 q2 q3 r0 r1 r2 : ℕ) → q1 * 256 + r0 ≡ w → q2 * 256 + r1 ≡ q1 → q3 * 256 + r2 ≡ q2 → r0 + r1 * 256 + r2 * 65536 + q3 * 16777216 ≡ w
 digits w q1 q2 q3 r0 r1 r2 e f g = omega arith

@@ -1,4 +1,4 @@
-use Prim.Native.Nat.{ℕ, _+_, _*_, _/_, _%_, _<_}
+use Prim.Native.Nat.{ℕ, _+_, _*_, _/_, _%_}
 use mathlib.Core.Bool.{cond}
 use mathlib.Core.List.{List, [], _∷_}
 use lib.Dec.{leb}
@@ -22,7 +22,3 @@ wordBytes w = w % 256 ∷ w / 256 % 256 ∷ w / 65536 % 256 ∷ w / 16777216 % 2
 -- words one after the other, as bytes
 abbrev pub encoded : List ℕ → List ℕ
 encoded words = joined wordBytes words
-
--- each element is a byte
-abbrev pub Octets : List ℕ → Type 0
-Octets bytes = (k : ℕ) → getD bytes k 0 < 256

@@ -1,6 +1,6 @@
 ghost use Rattle.opening.specs.Opened.{opened};
 ghost use Rattle.report.specs.Line.{lineOf};
-ghost use Rattle.report.specs.Check.{verdictOf};
+ghost use Rattle.report.specs.Check.{verdictOf, verdictOn};
 ghost use Rattle.std.specs.Of.String.{string-bytes};
 ghost use Rattle.std.specs.Results.{Cases, isOk};
 ghost use Rattle.std.specs.Vec.{made};
@@ -10,21 +10,29 @@ use crate::refusal::RefusalFromFault;
 use crate::verdict::Verdict;
 use opening::fault::OpenError;
 use opening::open;
+use problem::problem::Problem;
 use std::alloc::AllocError;
 use std::alloc::Global;
+
+/// The verdict on what opening answered, or nothing where that found no memory.
+pub fn verdict_on(opening: Result<Problem, OpenError>) -> Option<Verdict>
+    ensures { λ r. ⌜ r ≡ verdictOn opening ⌝ }
+{
+    match opening {
+        Ok(problem) => Some(Verdict::Accepted {
+            rows: 0,
+            tasks: problem.dimensions().tasks as usize,
+        }),
+        Err(OpenError::Refused(fault)) => Some(Verdict::Refused(fault.into())),
+        Err(OpenError::Memory) => None,
+    }
+}
 
 /// The verdict on the bytes of a problem file. Only a file that is accepted needs memory.
 pub fn verdict(heap: Global, problem: &[u8]) -> Result<Verdict, AllocError>
     ensures { λ r. ⌜ Cases r (λ v. v ≡ verdictOf (opened (now (problem .entry)))) (λ _. isOk (opened (now (problem .entry))) ≡ true) ⌝ }
 {
-    match open(heap, problem) {
-        Ok(problem) => Ok(Verdict::Accepted {
-            rows: 0,
-            tasks: problem.dimensions().tasks as usize,
-        }),
-        Err(OpenError::Refused(fault)) => Ok(Verdict::Refused(fault.into())),
-        Err(OpenError::Memory) => Err(AllocError),
-    }
+    verdict_on(open(heap, problem)).ok_or(AllocError)
 }
 
 /// The line that framecheck prints for the bytes of a problem file.

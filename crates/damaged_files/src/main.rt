@@ -1,4 +1,6 @@
 //! Damages a good problem file in one way after another, and prints what is said of each.
+#![tactic(auto)]
+
 mod cases;
 
 use cases::Case;

@@ -1,4 +1,6 @@
 //! Checks the files of a flight and prints one line on them.
+#![tactic(auto)]
+
 use report::check;
 use std::fs::File;
 use std::io;

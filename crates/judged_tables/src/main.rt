@@ -1,4 +1,6 @@
 //! Judges one table after another by the published book and by piles, and prints what is said of each.
+#![tactic(auto)]
+
 mod building;
 mod cases;
 mod outcome;

@@ -1,4 +1,6 @@
 //! A problem from the bytes of a problem file: granted, or refused by the first of its faults.
+#![tactic(auto)]
+
 ghost use Rattle.opening.specs.Opened.{opened, records_fault};
 ghost use Rattle.opening.specs.Promise.{HoldsRecords, OpensEncodings, Outcome};
 ghost use Rattle.problem_file.specs.Layout.{file_end};

@@ -1,4 +1,6 @@
 //! Rules made of other rules: two one after the other, one with places waived, one confined to a partition.
+#![tactic(auto)]
+
 pub mod confinement;
 pub mod fault;
 pub mod pair;

@@ -86,7 +86,7 @@ within_prop m p q =
       windows = same p.windows q.windows (all_prop _ (window_prop m.dimensions) m.windows) i;
       dependencies = same p.dependencies q.dependencies (all_prop _ (dependency_prop m.dimensions) m.dependencies) i;
       exclusions = same p.exclusions q.exclusions (all_prop _ (exclusion_prop m.dimensions) m.exclusions) i;
-      order = same p.order q.order (search (props, follows_prop) depth 8) i;
+      order = same p.order q.order (hlevel (props, follows_prop)) i;
     }
 
 pub knows : (p : Problem) → Within (model p)

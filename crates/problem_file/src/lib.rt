@@ -1,4 +1,6 @@
 //! The form of a problem file: its header, and its records one by one.
+#![tactic(auto)]
+
 pub mod counts;
 mod decode;
 pub mod fault;

@@ -1,4 +1,6 @@
 //! A rule from outside the published book: one processor of the flight computer is kept free as a spare.
+#![tactic(auto)]
+
 ghost use Rattle.spare_processor.specs.Spare.{Elsewhere, spare_rule};
 ghost use Rattle.std.specs.Prelude.{Decides};
 ghost use Rattle.table.specs.Row.{row_model};

@@ -1,4 +1,6 @@
 //! Scheduling tables: for each task of a problem a row, of lawful shape, or none.
+#![tactic(auto)]
+
 pub mod dates;
 pub mod part;
 pub mod placed;

@@ -1,3 +1,5 @@
+#![tactic(auto)]
+
 pub mod allocation;
 pub mod deadline;
 pub mod duration;

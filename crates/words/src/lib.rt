@@ -1,4 +1,6 @@
 //! 32-bit little-endian words in a slice of bytes.
+#![tactic(auto)]
+
 ghost use Rattle.words.specs.Words.{read_at};
 ghost use Rattle.std.specs.Prelude.{◌≡◌};
 

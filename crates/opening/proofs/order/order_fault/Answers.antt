@@ -17,25 +17,25 @@ loop-item-init c =
     let stands = standing_at c.args.file c.args.header c.first.result reader e (omega (arith, c.first.ensures)) in
     ordered_none reader.header.counts file reader (subst (λ (x : Counts). Standing x file reader) same stands) (ap (λ r. r.position) e ∙ c.first.ensures ∙ ap (λ x. first x Windows) same)
 
-pub returns-in-default-item : goal.returns-in-default-item
-returns-in-default-item c =
+pub returns-in_default-item : goal.returns-in_default-item
+returns-in_default-item c =
     let counts = c.at-reader.result.header.counts in
     let file = c.args.file.now in
     let reader = c.loop-item.reader in
     let same = ap (λ r. r.header.counts) c.at-reader.ensures in
     let shows = standing_shows counts file reader (Some (shown c.in-Some.item)) c.loop-item.invariant.stands c.in-Some.ensures.shows in
-    let other = subst NoWindow (sym shows) (no_window_lem c.in-Some.item c.in-default-item.not-Window) in
+    let other = subst NoWindow (sym shows) (no_window_lem c.in-Some.item c.in_default-item.not-Window) in
     ordered_end counts file reader c.loop-item.before (c.requires ∙ ap file_end (sym same)) c.loop-item.invariant other ∙ ap (λ x. order_fault x (stated x file).windows) same
 
-pub returns-then-out-of-place : goal.returns-then-out-of-place
-returns-then-out-of-place c =
+pub returns-then-out_of_place : goal.returns-then-out_of_place
+returns-then-out_of_place c =
     let counts = c.at-reader.result.header.counts in
     let file = c.args.file.now in
     let reader = c.loop-item.reader in
     let e = c.in-Some.ensures in
     let same = ap (λ r. r.header.counts) c.at-reader.ensures in
     let shows = standing_shows counts file reader (Some (shown c.in-Some.item)) c.loop-item.invariant.stands e.shows ∙ ap (λ x. Some (shown x)) c.in-Window.is in
-    ordered_found counts file reader c.position-record.result c.loop-item.before c.in-Window.window c.in-Window.bytes.now c.loop-item.invariant shows (c.position-record.ensures ∙ e.step.position) (sym c.out-of-place.ensures ∙ c.if-out-of-place.true)
+    ordered_found counts file reader c.position-record.result c.loop-item.before c.in-Window.window c.in-Window.bytes.now c.loop-item.invariant shows (c.position-record.ensures ∙ e.step.position) (sym c.out_of_place.ensures ∙ c.if-out_of_place.true)
     ∙ ap (λ x. order_fault x (stated x file).windows) same
 
 pub loop-item-preserved : goal.loop-item-preserved
@@ -45,7 +45,7 @@ loop-item-preserved c =
     let reader = c.loop-item.reader in
     let e = c.in-Some.ensures in
     let shows = standing_shows counts file reader (Some (shown c.in-Some.item)) c.loop-item.invariant.stands e.shows ∙ ap (λ x. Some (shown x)) c.in-Window.is in
-    ordered_more counts file reader c.next.new.self c.loop-item.before c.in-Window.window c.in-Window.bytes.now c.loop-item.invariant shows e.step (sym c.out-of-place.ensures ∙ c.if-out-of-place.false)
+    ordered_more counts file reader c.next.new.self c.loop-item.before c.in-Window.window c.in-Window.bytes.now c.loop-item.invariant shows e.step (sym c.out_of_place.ensures ∙ c.if-out_of_place.false)
 
 pub returns : goal.returns
 returns c =
@@ -53,5 +53,5 @@ returns c =
     let file = c.args.file.now in
     let reader = c.loop-item.reader in
     let same = ap (λ r. r.header.counts) c.at-reader.ensures in
-    let shows = standing_shows counts file reader None c.loop-item.invariant.stands c.in-default.ensures.shows in
+    let shows = standing_shows counts file reader None c.loop-item.invariant.stands c.in_default.ensures.shows in
     ordered_end counts file reader c.loop-item.before (c.requires ∙ ap file_end (sym same)) c.loop-item.invariant (subst NoWindow (sym shows) tt) ∙ ap (λ x. order_fault x (stated x file).windows) same

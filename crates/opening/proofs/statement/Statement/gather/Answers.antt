@@ -23,7 +23,7 @@ loop-item-preserved c =
     let reader = c.loop-item.reader in
     let e = c.in-Some.ensures in
     let shows = standing_shows counts file reader (Some (shown c.in-Some.item)) c.loop-item.invariant.stands e.shows in
-    gathered_more counts file reader c.next.new.self (said c.loop-item.statement) (said c.push.new.self) (shown c.in-Some.item) c.loop-item.invariant shows e.step c.in-ok-push.ensures
+    gathered_more counts file reader c.next.new.self (said c.loop-item.statement) (said c.push.new.self) (shown c.in-Some.item) c.loop-item.invariant shows e.step c.in_ok-push.ensures
 
 pub returns : goal.returns
 returns c =
@@ -31,5 +31,5 @@ returns c =
     let file = c.args.file.now in
     let reader = c.loop-item.reader in
     let same = ap (λ r. r.header.counts) c.new-reader.ensures in
-    let shows = standing_shows counts file reader None c.loop-item.invariant.stands c.in-default.ensures.shows in
+    let shows = standing_shows counts file reader None c.loop-item.invariant.stands c.in_default.ensures.shows in
     gathered_all counts file reader (said c.loop-item.statement) (c.requires ∙ ap file_end (sym same)) c.loop-item.invariant shows ∙ ap (λ x. stated x file) same

@@ -34,7 +34,7 @@ shaped_prop m rows p q =
     λ i. record {
       problem = same p.problem q.problem (within_prop m) i;
       places = same p.places q.places (hlevel props) i;
-      shapes = same p.shapes q.shapes (search (props, shape_prop) depth 8) i;
+      shapes = same p.shapes q.shapes (hlevel (props, shape_prop)) i;
     }
 
 pub knows : (t : Table) → Shaped (problem_of t) (rows_of t)

@@ -8,10 +8,10 @@ use Rattle.table.proofs.Spread.{ends-before}
 use Rattle.overlap_rule.specs.Search.{Clear}
 use Rattle.overlap_rule.specs.Apart.{below_last, below_more_ℤ, clear_apart, earlier-clear, next_distance, test_gt, test_le}
 use Rattle.overlap_rule.proofs.search.between.Goals as goal
-use Rattle.overlap_rule.proofs.search.between.Goals.{else-share-tick-via-then-share-tick+else-not-never-both, else-share-tick-via-else-share-tick}
+use Rattle.overlap_rule.proofs.search.between.Goals.{else-share_tick-via-then-share_tick+else-not-never_both, else-share_tick-via-else-share_tick}
 
-pub share-tick-requires : goal.share-tick-requires
-share-tick-requires c =
+pub share_tick-requires : goal.share_tick-requires
+share_tick-requires c =
     let few = (knows c.args.problem.now).dimensions in
     let d = c.args.problem.now.dimensions in
     let x = c.loop-first.first in let y = c.loop-second.second in
@@ -27,9 +27,9 @@ share-tick-requires c =
 pub loop-second-preserved : goal.loop-second-preserved
 loop-second-preserved c =
     below_more _ _ c.loop-second.invariant
-    (λ n m e. elim c.else-share-tick.branch [
-      | else-share-tick-via-then-share-tick+else-not-never-both w ↦ λ _. (w.never-both.ensures n m e).0 w.if-not-never-both.false
-      | else-share-tick-via-else-share-tick w ↦ λ t. absurd (both_ways _ w.if-share-tick.false ((c.share-tick.ensures n m e).1 t))
+    (λ n m e. elim c.else-share_tick.branch [
+      | else-share_tick-via-then-share_tick+else-not-never_both w ↦ λ _. (w.never_both.ensures n m e).0 w.if-not-never_both.false
+      | else-share_tick-via-else-share_tick w ↦ λ t. absurd (both_ways _ w.if-share_tick.false ((c.share_tick.ensures n m e).1 t))
     ])
 
 pub loop-first-preserved : goal.loop-first-preserved
@@ -50,14 +50,14 @@ returns-after-loop-distance c =
     clear_apart (model c.args.problem.now) c.args.i c.args.j (row_model c.args.a.now) (row_model c.args.b.now) c.requires.a c.requires.b
     (λ d low high x y hx hy. c.loop-distance.invariant.2 d low (below_last d _ high (test_gt _ _ c.loop-distance-test.false)) x hx y hy)
 
-pub returns-then-not-never-both : goal.returns-then-not-never-both
-returns-then-not-never-both c =
+pub returns-then-not-never_both : goal.returns-then-not-never_both
+returns-then-not-never_both c =
     record {
       low = c.loop-distance.invariant.0;
       high = test_le _ _ c.loop-distance-test.true;
       first = c.loop-first-test.true;
       second = c.loop-second-test.true;
-      shared = λ n m e. (c.share-tick.ensures n m e).0 c.if-share-tick.true;
-      unexcused = λ n m e. not_from_Decides c.never-both.result (c.never-both.ensures n m e) c.if-not-never-both.true;
+      shared = λ n m e. (c.share_tick.ensures n m e).0 c.if-share_tick.true;
+      unexcused = λ n m e. not_from_Decides c.never_both.result (c.never_both.ensures n m e) c.if-not-never_both.true;
       before = earlier-clear (model c.args.problem.now) c.args.i c.args.j (row_model c.args.a.now) (row_model c.args.b.now) _ c.loop-distance.invariant.2 c.loop-first.invariant c.loop-second.invariant;
     }

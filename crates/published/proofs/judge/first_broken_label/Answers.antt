@@ -3,10 +3,10 @@ use Rattle.table.proofs.Known.{knows}
 use Rattle.published.proofs.Exactly.{exactly, meets, suffices}
 use Rattle.published.proofs.judge.first_broken_label.Goals as goal
 
-pub returns-in-default : goal.returns-in-default
-returns-in-default c =
+pub returns-in_default : goal.returns-in_default
+returns-in_default c =
     let t = c.args.table.now in
-    record { found = meets (problem_of t) (rows_of t) c.in-default.ensures.found; exactly = exactly (problem_of t) }
+    record { found = meets (problem_of t) (rows_of t) c.in_default.ensures.found; exactly = exactly (problem_of t) }
 
 pub returns : goal.returns
 returns c =

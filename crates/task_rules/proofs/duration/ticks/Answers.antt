@@ -6,8 +6,8 @@ use Rattle.task_rules.proofs.duration.ticks.Goals as goal
 
 pub loop-part-preserved : goal.loop-part-preserved
 loop-part-preserved c = (
-  omega (arith, ticks_more c.args.parts.now c.loop-part.part-index c.loop-part-test.true, c.saturating-sub.ensures),
-  omega (arith, c.saturating-sub.type-inv),
+  omega (arith, ticks_more c.args.parts.now c.loop-part.part-index c.loop-part-test.true, c.saturating_sub.ensures),
+  omega (arith, c.saturating_sub.type_inv),
 )
 
 pub returns : goal.returns

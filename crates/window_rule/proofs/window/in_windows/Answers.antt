@@ -7,15 +7,15 @@ use Rattle.table.specs.Rows.{no_part}
 use Rattle.window_rule.specs.Windows.{Served}
 use Rattle.window_rule.proofs.window.in_windows.Goals as goal
 
-pub returns-then-not-is-served : goal.returns-then-not-is-served
-returns-then-not-is-served c n = (
+pub returns-then-not-is_served : goal.returns-then-not-is_served
+returns-then-not-is_served c n = (
   λ e. absurd (false≢true e),
-  λ all. absurd (not_from_Decides c.is-served.result (c.is-served.ensures n) c.if-not-is-served.true
+  λ all. absurd (not_from_Decides c.is_served.result (c.is_served.ensures n) c.if-not-is_served.true
       (all (get_or c.args.placed.now.row.parts.now c.loop-part.part-index no_part) (has_get_or c.args.placed.now.row.parts.now c.loop-part.part-index no_part c.loop-part-test.true))),
 )
 
 pub loop-part-preserved : goal.loop-part-preserved
-loop-part-preserved c = below_more _ _ c.loop-part.invariant (λ n. (c.is-served.ensures n).0 c.if-not-is-served.false)
+loop-part-preserved c = below_more _ _ c.loop-part.invariant (λ n. (c.is_served.ensures n).0 c.if-not-is_served.false)
 
 pub returns : goal.returns
 returns c n =

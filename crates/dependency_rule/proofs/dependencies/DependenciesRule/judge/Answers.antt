@@ -11,17 +11,17 @@ use Rattle.dependency_rule.proofs.Lookups.{some_below}
 use Rattle.dependency_rule.specs.OfDependencies.{dependency_broken}
 use Rattle.dependency_rule.proofs.dependencies.DependenciesRule.judge.Goals as goal
 
-pub in-order-requires : goal.in-order-requires
-in-order-requires c =
+pub in_order-requires : goal.in_order-requires
+in_order-requires c =
     let p = problem_of c.args.table.now in
     let d = c.args.place in
     let at = some_below d (length p.dependencies) c.in-Some.dependency (dependency_at p d) c.in-Some.ensures in
     (subst (λ (x : Dependency). DependencyFits p.dimensions x) (sym at.1) (All-get_or (DependencyFits p.dimensions) p.dependencies d no_dependency at.0 (knows c.args.table.now.problem).dependencies)).depth
 
-pub returns-else-in-order : goal.returns-else-in-order
-returns-else-in-order c =
+pub returns-else-in_order : goal.returns-else-in_order
+returns-else-in_order c =
     let p = problem_of c.args.table.now in
     let d = c.args.place in
     let at = some_below d (length p.dependencies) c.in-Some.dependency (dependency_at p d) c.in-Some.ensures in
     dependency_broken p (rows_of c.args.table.now) d c.in-Some.dependency (row_model c.in-Some-row.from) (row_model c.in-Some-row-2.to) at.0 at.1
-    c.in-Some-row.ensures.value c.in-Some-row-2.ensures.value 0 (not_from_Decides c.in-order.result (c.in-order.ensures 0) c.if-in-order.false)
+    c.in-Some-row.ensures.value c.in-Some-row-2.ensures.value 0 (not_from_Decides c.in_order.result (c.in_order.ensures 0) c.if-in_order.false)

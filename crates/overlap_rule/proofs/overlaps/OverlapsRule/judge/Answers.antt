@@ -2,11 +2,11 @@ use Rattle.std.proofs.Common.{arith}
 use Rattle.problem.proofs.Known.{knows}
 use Rattle.overlap_rule.proofs.overlaps.OverlapsRule.judge.Goals as goal
 
-pub nonzero-div-i : goal.nonzero-div-i
-nonzero-div-i c = (knows c.args.table.now.problem).dimensions.3.0
+pub nonzero_div-i : goal.nonzero_div-i
+nonzero_div-i c = (knows c.args.table.now.problem).dimensions.3.0
 
-pub nonzero-rem-j : goal.nonzero-rem-j
-nonzero-rem-j c = (knows c.args.table.now.problem).dimensions.3.0
+pub nonzero_rem-j : goal.nonzero_rem-j
+nonzero_rem-j c = (knows c.args.table.now.problem).dimensions.3.0
 
 pub returns-in-Some : goal.returns-in-Some
 returns-in-Some c =

@@ -9,18 +9,15 @@ use Rattle.table.proofs.Shapes.{shaped_none}
 use Rattle.table.proofs.Slots.{slots_none, counted_none}
 use Rattle.table.proofs.table.Table.empty.Goals as goal
 
-pub invariant-of-result : goal.invariant-of-result
-invariant-of-result c =
-    let e = c.in-ok-rows.ensures.items-if-clones-equal (λ y h. search rules) in
-    let p = model c.args.problem in (
-      subst (λ (kept : List (Option StoredRow)). Counted kept) (sym e) (counted_none p.dimensions.tasks),
-      (
-        ∣ subst (λ (rows : Rows). Shaped p rows) (sym (ap stored_rows e ∙ slots_none p.dimensions.tasks)) (shaped_none p (knows c.args.problem)) ∣₁,
-        tt,
-      ),
-    )
+pub invariant_of-result : goal.invariant_of-result
+invariant_of-result c =
+    let e = c.in_ok-rows.ensures.items_if_clones_equal (λ y h. search rules) in
+    let p = model c.args.problem in record {
+      counted = subst (λ (kept : List (Option StoredRow)). Counted kept) (sym e) (counted_none p.dimensions.tasks);
+      shaped = ∣ subst (λ (rows : Rows). Shaped p rows) (sym (ap stored_rows e ∙ slots_none p.dimensions.tasks)) (shaped_none p (knows c.args.problem)) ∣₁;
+    }
 
 pub returns : goal.returns
 returns c =
-    let e = c.in-ok-rows.ensures.items-if-clones-equal (λ y h. search rules) in
+    let e = c.in_ok-rows.ensures.items_if_clones_equal (λ y h. search rules) in
     (refl, ap stored_rows e ∙ slots_none c.args.problem.dimensions.tasks)

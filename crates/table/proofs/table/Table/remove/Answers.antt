@@ -10,16 +10,14 @@ use Rattle.table.proofs.Shapes.{shaped_set}
 use Rattle.table.proofs.Slots.{slots_set, counted_set}
 use Rattle.table.proofs.table.Table.remove.Goals as goal
 
-pub invariant-of-self : goal.invariant-of-self
-invariant-of-self c =
-    let t = c.args.self.now in (
-      counted_set t.rows.items c.args.task None t.counted (omega arith),
-      (
-        ∣ subst (λ (rows : Rows). Shaped (problem_of t) rows) (sym (slots_set t.rows.items c.args.task None))
-            (shaped_set (problem_of t) (rows_of t) c.args.task None (knows t) (λ row e. absurd (let z : ◌≡◌ {A = ℕ} 0 1 = cc in omega arith))) ∣₁,
-        tt,
-      ),
-    )
+pub invariant_of-self : goal.invariant_of-self
+invariant_of-self c =
+    let t = c.args.self.now in
+    record {
+      counted = counted_set t.rows.items c.args.task None t.counted (omega arith);
+      shaped = ∣ subst (λ (rows : Rows). Shaped (problem_of t) rows) (sym (slots_set t.rows.items c.args.task None))
+            (shaped_set (problem_of t) (rows_of t) c.args.task None (knows t) (λ row e. absurd (let z : ◌≡◌ {A = ℕ} 0 1 = cc in omega arith))) ∣₁;
+    }
 
 pub returns-then-task-len : goal.returns-then-task-len
 returns-then-task-len c = record { rows = slots_set c.args.self.now.rows.items c.args.task None; problem = refl }

@@ -15,8 +15,8 @@ returns-then-task-len c =
       shaped = knows c.args.self.now;
     }
 
-pub slice-bounds-result-end : goal.slice-bounds-result-end
-slice-bounds-result-end c =
+pub slice_bounds-result-end : goal.slice_bounds-result-end
+slice_bounds-result-end c =
     let kept = c.args.self.now.rows.items in
     let at = get_or_read_under kept c.args.task c.args.self.now.rows.len c.index.result.now None c.index.ensures (omega arith) c.args.self.now.rows.ok.0 in
     let h : c.in-Some.stored.count ≤ 4 = count_kept kept c.args.task c.in-Some.stored c.args.self.now.counted (sym at ∙ c.in-Some.is) in search rules

@@ -7,9 +7,9 @@ use Rattle.window_rule.proofs.window.WindowsRule.judge.Goals as goal
 pub returns-in-Some : goal.returns-in-Some
 returns-in-Some c =
     each-broken 4 InWindows (problem_of c.args.table.now) (rows_of c.args.table.now) c.args.place c.in-Some.placed c.in-Some.ensures 0
-    (not_from_Decides c.in-windows.result (c.in-windows.ensures 0) c.if-not-in-windows.true)
+    (not_from_Decides c.in_windows.result (c.in_windows.ensures 0) c.if-not-in_windows.true)
 
-pub returns-in-default : goal.returns-in-default
-returns-in-default c =
+pub returns-in_default : goal.returns-in_default
+returns-in_default c =
     each-kept 4 InWindows (problem_of c.args.table.now) (rows_of c.args.table.now) c.args.place c.in-Some.placed c.in-Some.ensures
-    (λ n. (c.in-windows.ensures n).0 c.if-not-in-windows.false)
+    (λ n. (c.in_windows.ensures n).0 c.if-not-in_windows.false)

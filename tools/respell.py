@@ -3,7 +3,7 @@
 
 usage: python3 tools/respell.py      at the top of the repository
 
-A name turns where it is declared at the head of a line of a file of specs/ or proofs/ (or as a field or a constructor there), and everywhere it is used: in those files, in the
+A name turns where it is declared at the head of a line of a file of specs/ or proofs/ (or as a field or a constructor, or in a block 'module _'), and everywhere it is used: in those files, in the
 clauses of src/, and in the code spans of README.md and docs/. Types and facts keep their capitals. What Rattle makes keeps its name: a declaration at a type 'goal.x' is no name of ours.
 A second run changes nothing.
 """
@@ -12,20 +12,21 @@ import glob
 import re
 
 WORD = re.compile(r"[^\s(){}.;,@\"«»]+")
-TYPE = re.compile(r"^(?:unfoldable |abbrev )?(?:pub )?(?:data|record) (\S+)")
-FIELD = re.compile(r"^  (?:pub )?([^\s:(){}]+) :")
+BLOCK = re.compile(r"^(?:(?:unfoldable |abbrev )?(?:pub )?(?:data|record)|module) (\S+)")
+FIELD = re.compile(r"^ {2,4}(?:unfoldable |abbrev )?(?:pub )?([^\s:(){}=]+) :")
 ITEM = re.compile(r"^(?:unfoldable |abbrev )?(?:pub )?([^\s:(){}=]+) :(?! goal\.)")
 # The lemmas whose plain spelling is a definition's.
 LEMMAS = {
     "dependency-at": "dependency_at_lem",
     "exclusion-at": "exclusion_at_lem",
     "no-window": "no_window_lem",
-    "read_at": "read_at_lem",
     "record-at": "record_at_lem",
     "task-at": "task_at_lem",
     "task-words": "task_words_lem",
     "window-at": "window_at_lem",
 }
+# A lemma of one file that is spelled like a definition of another crate.
+APART = ("crates/opening/proofs/Reopened.antt", "read_at", "read_at_lem")
 # What the pages call by a name that a definition had before.
 PAGES = {
     name: None
@@ -40,7 +41,7 @@ def snake(name):
 def declared(text):
     inside = False
     for line in text.split("\n"):
-        if TYPE.match(line):
+        if BLOCK.match(line):
             inside = True
             continue
         field = FIELD.match(line) if inside else None
@@ -66,6 +67,10 @@ def read(path):
 
 
 def main():
+    path, old, new = APART
+    text = read(path)
+    if new not in text:
+        written(path, text, WORD.sub(lambda m: new if m[0] == old else m[0], text))
     antt = sorted(glob.glob("crates/*/specs/*.antt") + glob.glob("crates/*/proofs/**/*.antt", recursive=True))
     names = {}
     for path in antt:
@@ -87,11 +92,10 @@ def main():
     for path in antt:
         text = read(path)
         written(path, text, WORD.sub(turn, text))
-    # 'read_at' is a function of words too, and its own name stays: only lemmas are turned by LEMMAS, and src/ names none.
     ours = {old: new for old, new in names.items() if old not in LEMMAS}
     for path in sorted(glob.glob("crates/*/src/*.rt")):
         text = read(path)
-        written(path, text, re.sub(r"\b[a-z][A-Za-z]*\b", lambda m: ours.get(m[0], m[0]), text))
+        written(path, text, re.sub(r"(?<![\w-])[a-z][A-Za-z-]*(?![\w-])", lambda m: ours.get(m[0], m[0]), text))
     spans = dict(ours)
     spans.update({name: snake(name) for name in PAGES})
     for path in ["README.md", *sorted(glob.glob("docs/*.md"))]:

@@ -1,7 +1,7 @@
 ghost use Rattle.std.specs.Prelude.{ℕ, ◌≤◌, Decides};
 ghost use Rattle.dependency_rule.specs.Dependencies.{InOrder, dependency_rule};
 ghost use Rattle.table.specs.Row.{row_model};
-ghost use Rattle.dependency_rule.specs.OfDependencies.{dependencies-reach, dependencies-absence};
+ghost use Rattle.dependency_rule.specs.OfDependencies.{dependencies_reach, dependencies_absence};
 
 use problem::dependency::Dependency;
 use problem::problem::Problem;
@@ -32,9 +32,9 @@ fn in_order(frame: u32, dependency: &Dependency, from: &Row<'_>, to: &Row<'_>) -
 impl Rule for Dependencies {
     ghost meaning = { λ _. dependency_rule };
 
-    ghost reach = { λ _. dependencies-reach };
+    ghost reach = { λ _. dependencies_reach };
 
-    ghost absence = { λ _. dependencies-absence };
+    ghost absence = { λ _. dependencies_absence };
 
     fn count(&self, problem: &Problem) -> u32 {
         problem.dependencies.len() as u32

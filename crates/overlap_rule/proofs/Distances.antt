@@ -24,11 +24,11 @@ module _ (frame : ℕ) (a b : Part) (d : ℤ) (n m : ℕ) (at : AtDistance n m d
       meet (a.begin + n * frame) (a.end + n * frame) (b.begin + m * frame) (b.end + m * frame) (omega arith) (omega arith) (omega (arith, ints)) (omega (arith, ints))
 
   -- of parts that share a tick each begins before the other ends
-  pub share-first : ShareTick frame a n b m → pos a.begin <ℤ (pos b.end +ℤ (d *ℤ pos frame))
-  share-first (tick, ia, ib) = let s = shifted d n m frame at in omega (arith, ints)
+  pub share_first : ShareTick frame a n b m → pos a.begin <ℤ (pos b.end +ℤ (d *ℤ pos frame))
+  share_first (tick, ia, ib) = let s = shifted d n m frame at in omega (arith, ints)
 
-  pub share-second : ShareTick frame a n b m → (pos b.begin +ℤ (d *ℤ pos frame)) <ℤ pos a.end
-  share-second (tick, ia, ib) = let s = shifted d n m frame at in omega (arith, ints)
+  pub share_second : ShareTick frame a n b m → (pos b.begin +ℤ (d *ℤ pos frame)) <ℤ pos a.end
+  share_second (tick, ia, ib) = let s = shifted d n m frame at in omega (arith, ints)
 
 -- what the code's second test says
 pub second_test : (begin end : ℕ) (r z : ℤ) → begin ≤ 4000000 → end ≤ 4000000 → negsuc 2999999 ≤ℤ r → r ≤ℤ pos 3000000 → r ≡ z →

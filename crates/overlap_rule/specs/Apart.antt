@@ -9,7 +9,7 @@ use Rattle.problem.specs.Limits.{Model}
 use Rattle.table.specs.declared.part.Part.{Part}
 use Rattle.table.specs.Rows.{RowModel, no_part, start_of}
 use Rattle.table.specs.Shape.{LawfulShape}
-use Rattle.table.proofs.Spread.{begins-after, ends-before}
+use Rattle.table.proofs.Spread.{begins_after, ends_before}
 use Rattle.overlap_rule.specs.declared.overlap.Overlap.{Overlap}
 use Rattle.overlap_rule.specs.Instances.{InPart, NeverBoth}
 use Rattle.overlap_rule.specs.Overlaps.{ApartIn}
@@ -59,32 +59,32 @@ module _ (p : Model) (i j : ℕ) (a b : RowModel) (oka : LawfulShape p.dimension
       let frame = p.dimensions.frame in
       let ip = subst (λ (z : Part). InPart frame z n t) (sym (ax no_part)) ia in
       let iq = subst (λ (z : Part). InPart frame z m t) (sym (ay no_part)) ib in
-      let a1 = begins-after p.dimensions a oka x hx in
-      let a2 = ends-before p.dimensions a oka x hx in
-      let b1 = begins-after p.dimensions b okb y hy in
-      let b2 = ends-before p.dimensions b okb y hy in
+      let a1 = begins_after p.dimensions a oka x hx in
+      let a2 = ends_before p.dimensions a oka x hx in
+      let b1 = begins_after p.dimensions b okb y hy in
+      let b2 = ends_before p.dimensions b okb y hy in
       let nm : n ≤ m + 3 = near frame m n (start_of a) (start_of b) t oka.starts okb.starts (omega arith) (omega arith) in
       let mn : m ≤ n + 3 = near frame n m (start_of b) (start_of a) t okb.starts oka.starts (omega arith) (omega arith) in
       let d = apart n m in
       clear d.0 (omega (arith, ints, d.1)) (omega (arith, ints, d.1)) x y hx hy n m d.1 (t, ip, iq)
 
   -- parts that share a tick without leave break the place in frame 3
-  pub overlap-broken : (d : ℤ) → negsuc 2 ≤ℤ d → (x y : ℕ) → x < length a.parts → y < length b.parts →
+  pub overlap_broken : (d : ℤ) → negsuc 2 ≤ℤ d → (x y : ℕ) → x < length a.parts → y < length b.parts →
       ((n m : ℕ) → AtDistance n m d → ShareTick p.dimensions.frame (slice_index_or a.parts x no_part) n (slice_index_or b.parts y no_part) m) →
       ((n m : ℕ) → AtDistance n m d → NeverBoth p i n j m → ⊥) → ApartIn p i j a b 3 → ⊥
-  overlap-broken d low x y hx hy shared never kept =
+  overlap_broken d low x y hx hy shared never kept =
       let m = third d low in
       let s = shared 3 m.0 m.1 in
       never 3 m.0 m.1 (kept m.0 s.0 (slice_index_or a.parts x no_part, has_get_or a.parts x no_part hx, s.1) (slice_index_or b.parts y no_part, has_get_or b.parts y no_part hy, s.2))
 
 module _ (p : Model) (i j : ℕ) (a b : RowModel) where
   -- wherever the search looked earlier, by what it knows of distances, of the first row's parts and of the second's
-  pub earlier-clear : (o : Overlap) →
+  pub earlier_clear : (o : Overlap) →
       ((d : ℤ) → negsuc 2 ≤ℤ d → d <ℤ o.distance → (x : ℕ) → x < length a.parts → (y : ℕ) → y < length b.parts → Clear p i j a b d x y) →
       ((x : ℕ) → x < o.first → (y : ℕ) → y < length b.parts → Clear p i j a b o.distance x y) →
       ((y : ℕ) → y < o.second → Clear p i j a b o.distance o.first y) →
       (d : ℤ) (x y : ℕ) → negsuc 2 ≤ℤ d → x < length a.parts → y < length b.parts → Earlier d x y o → Clear p i j a b d x y
-  earlier-clear o distances firsts seconds d x y low hx hy earlier =
+  earlier_clear o distances firsts seconds d x y low hx hy earlier =
       elim earlier [
         | inl h ↦ distances d low h x hx y hy
         | inr (same, part) ↦ subst (λ (z : ℤ). Clear p i j a b z x y) (sym same)

@@ -10,7 +10,7 @@ use Rattle.rules.proofs.OfEachTask.{none_some, one_some}
 use Rattle.overlap_rule.specs.declared.overlap.Overlap.{Overlap}
 use Rattle.overlap_rule.specs.Overlaps.{ApartIn, OverlapKept, overlap_rule}
 use Rattle.overlap_rule.specs.Search.{FoundBetween, FoundOverlap}
-use Rattle.overlap_rule.specs.Apart.{overlap-broken}
+use Rattle.overlap_rule.specs.Apart.{overlap_broken}
 
 pub overlaps_reach : Reach overlap_rule
 overlaps_reach p a b k n sa sb h same kept below x y ex ey =
@@ -37,5 +37,5 @@ found_overlap p i j rows a b oka okb ea eb one (Some o) first = record {
   b_is = sym eb;
   one_processor = one;
   first = first;
-  broken = (3, λ kept. overlap-broken p i j a b oka okb o.distance first.low o.first o.second first.first first.second first.shared first.unexcused (kept a b (sym ea) (sym eb) one));
+  broken = (3, λ kept. overlap_broken p i j a b oka okb o.distance first.low o.first o.second first.first first.second first.shared first.unexcused (kept a b (sym ea) (sym eb) one));
 }

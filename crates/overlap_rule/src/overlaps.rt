@@ -1,5 +1,5 @@
 ghost use Rattle.overlap_rule.specs.Overlaps.{overlap_rule};
-ghost use Rattle.overlap_rule.specs.OfOverlaps.{overlaps-reach, overlaps-absence};
+ghost use Rattle.overlap_rule.specs.OfOverlaps.{overlaps_reach, overlaps_absence};
 
 use crate::search::overlap;
 use problem::problem::Problem;
@@ -15,9 +15,9 @@ pub struct Overlaps;
 impl Rule for Overlaps {
     ghost meaning = { λ _. overlap_rule };
 
-    ghost reach = { λ _. overlaps-reach };
+    ghost reach = { λ _. overlaps_reach };
 
-    ghost absence = { λ _. overlaps-absence };
+    ghost absence = { λ _. overlaps_absence };
 
     fn count(&self, problem: &Problem) -> u32 {
         let tasks = problem.dimensions().tasks;

@@ -1,5 +1,5 @@
 ghost use Rattle.piles.specs.Pair.{SideOf, paired};
-ghost use Rattle.piles.specs.Paired.{paired-reach, paired-absence};
+ghost use Rattle.piles.specs.Paired.{paired_reach, paired_absence};
 
 use problem::problem::Problem;
 use rules::judgement::Judgement;
@@ -40,9 +40,9 @@ impl Side {
 impl<A: Rule, B: Rule> Rule for Pair<A, B> {
     ghost meaning = { λ s. paired (A.Rule.meaning s.first) (B.Rule.meaning s.second) };
 
-    ghost reach = { λ r. paired-reach (A.Rule.meaning r.first) (B.Rule.meaning r.second) (A.Rule.reach r.first) (B.Rule.reach r.second) };
+    ghost reach = { λ r. paired_reach (A.Rule.meaning r.first) (B.Rule.meaning r.second) (A.Rule.reach r.first) (B.Rule.reach r.second) };
 
-    ghost absence = { λ r. paired-absence (A.Rule.meaning r.first) (B.Rule.meaning r.second) (A.Rule.absence r.first) (B.Rule.absence r.second) };
+    ghost absence = { λ r. paired_absence (A.Rule.meaning r.first) (B.Rule.meaning r.second) (A.Rule.absence r.first) (B.Rule.absence r.second) };
 
     fn count(&self, problem: &Problem) -> u32 {
         let both = self.first.count(problem) + self.second.count(problem);

@@ -17,17 +17,17 @@ use Rattle.dependency_rule.specs.Dependencies.{DependencyKept, dependency_rule}
 use Rattle.overlap_rule.specs.Overlaps.{OverlapKept, overlap_rule}
 use Rattle.published.specs.Book.{published_book, ◌then◌}
 use Rattle.published.specs.Conditions.{Conditions, LawfulExactly}
-use Rattle.published.proofs.Split.{KeepsAll, join, split-first, split-second}
+use Rattle.published.proofs.Split.{KeepsAll, join, split_first, split_second}
 
 module _ (p : Model) (rows : Rows) (s : Shaped p rows) where
-  dependency-from : KeepsAll dependency_rule p rows → (x : Dependency) → Has p.dependencies x → (n : ℕ) → DependencyKept p x rows n
-  dependency-from all x (d, h, at) n = subst (λ (y : Dependency). DependencyKept p y rows n) (at no_dependency) (all d n h)
+  dependency_from : KeepsAll dependency_rule p rows → (x : Dependency) → Has p.dependencies x → (n : ℕ) → DependencyKept p x rows n
+  dependency_from all x (d, h, at) n = subst (λ (y : Dependency). DependencyKept p y rows n) (at no_dependency) (all d n h)
 
-  dependency-to : ((x : Dependency) → Has p.dependencies x → (n : ℕ) → DependencyKept p x rows n) → KeepsAll dependency_rule p rows
-  dependency-to all d n h = all (get_or p.dependencies d no_dependency) (has_get_or p.dependencies d no_dependency h) n
+  dependency_to : ((x : Dependency) → Has p.dependencies x → (n : ℕ) → DependencyKept p x rows n) → KeepsAll dependency_rule p rows
+  dependency_to all d n h = all (get_or p.dependencies d no_dependency) (has_get_or p.dependencies d no_dependency h) n
 
-  overlap-from : KeepsAll overlap_rule p rows → (i j : ℕ) → i < j → (n : ℕ) → OverlapKept p i j rows n
-  overlap-from all i j below n a b ea eb =
+  overlap_from : KeepsAll overlap_rule p rows → (i j : ℕ) → i < j → (n : ℕ) → OverlapKept p i j rows n
+  overlap_from all i j below n a b ea eb =
       let T = p.dimensions.tasks in
       let hi = row_number p rows i a s ea in
       let hj = row_number p rows j b s eb in
@@ -37,8 +37,8 @@ module _ (p : Model) (rows : Rows) (s : Shaped p rows) where
       subst (λ (y : ℕ). OverlapKept p i y rows n) dj
       (subst (λ (x : ℕ). OverlapKept p x ((i * T + j) % T) rows n) di (place (omega arith))) a b ea eb
 
-  overlap-to : ((i j : ℕ) → i < j → (n : ℕ) → OverlapKept p i j rows n) → KeepsAll overlap_rule p rows
-  overlap-to all k n h below = all (k / p.dimensions.tasks) (k % p.dimensions.tasks) below n
+  overlap_to : ((i j : ℕ) → i < j → (n : ℕ) → OverlapKept p i j rows n) → KeepsAll overlap_rule p rows
+  overlap_to all k n h below = all (k / p.dimensions.tasks) (k % p.dimensions.tasks) below n
 
 -- the rules so far, in the book's order
 abbrev to2 : Meaning
@@ -72,21 +72,21 @@ pub meets : (p : Model) (rows : Rows) → Lawful published_book p rows → Condi
 meets p rows l =
     let s = l.shape in
     let few = book_count p s.problem in
-    let k7 = split-first to7 overlap_rule p rows few l.keeps in
-    let k6 = split-first to6 dependency_rule p rows (omega arith) k7 in
-    let k5 = split-first to5 deadline_rule p rows (omega arith) k6 in
-    let k4 = split-first to4 release_rule p rows (omega arith) k5 in
-    let k3 = split-first to3 window_rule p rows (omega arith) k4 in
-    let k2 = split-first to2 whole_rule p rows (omega arith) k3 in
+    let k7 = split_first to7 overlap_rule p rows few l.keeps in
+    let k6 = split_first to6 dependency_rule p rows (omega arith) k7 in
+    let k5 = split_first to5 deadline_rule p rows (omega arith) k6 in
+    let k4 = split_first to4 release_rule p rows (omega arith) k5 in
+    let k3 = split_first to3 window_rule p rows (omega arith) k4 in
+    let k2 = split_first to2 whole_rule p rows (omega arith) k3 in
     record {
-      allocation = λ t row e. split-first allocation_rule duration_rule p rows (omega arith) k2 t 0 (row_number p rows t row s e) row e;
-      duration = λ t row e. split-second allocation_rule duration_rule p rows (omega arith) k2 t 0 (row_number p rows t row s e) row e;
-      whole = λ t row e. split-second to2 whole_rule p rows (omega arith) k3 t 0 (row_number p rows t row s e) row e;
-      window = λ t row e n. split-second to3 window_rule p rows (omega arith) k4 t n (row_number p rows t row s e) row e;
-      release = λ t row e. split-second to4 release_rule p rows (omega arith) k5 t 0 (row_number p rows t row s e) row e;
-      deadline = λ t row e. split-second to5 deadline_rule p rows (omega arith) k6 t 0 (row_number p rows t row s e) row e;
-      dependency = dependency-from p rows s (split-second to6 dependency_rule p rows (omega arith) k7);
-      overlap = overlap-from p rows s (split-second to7 overlap_rule p rows few l.keeps);
+      allocation = λ t row e. split_first allocation_rule duration_rule p rows (omega arith) k2 t 0 (row_number p rows t row s e) row e;
+      duration = λ t row e. split_second allocation_rule duration_rule p rows (omega arith) k2 t 0 (row_number p rows t row s e) row e;
+      whole = λ t row e. split_second to2 whole_rule p rows (omega arith) k3 t 0 (row_number p rows t row s e) row e;
+      window = λ t row e n. split_second to3 window_rule p rows (omega arith) k4 t n (row_number p rows t row s e) row e;
+      release = λ t row e. split_second to4 release_rule p rows (omega arith) k5 t 0 (row_number p rows t row s e) row e;
+      deadline = λ t row e. split_second to5 deadline_rule p rows (omega arith) k6 t 0 (row_number p rows t row s e) row e;
+      dependency = dependency_from p rows s (split_second to6 dependency_rule p rows (omega arith) k7);
+      overlap = overlap_from p rows s (split_second to7 overlap_rule p rows few l.keeps);
     }
 
 pub suffices : (p : Model) (rows : Rows) → Shaped p rows → Conditions p rows → Lawful published_book p rows
@@ -106,8 +106,8 @@ suffices p rows s c = record {
       (λ t n h row e. c.window t row e n))
       (λ t n h row e. c.release t row e))
       (λ t n h row e. c.deadline t row e))
-      (dependency-to p rows s c.dependency))
-      (overlap-to p rows s c.overlap);
+      (dependency_to p rows s c.dependency))
+      (overlap_to p rows s c.overlap);
 }
 
 pub exactly : (p : Model) → LawfulExactly p

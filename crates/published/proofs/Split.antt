@@ -19,11 +19,11 @@ module _ (a b : Meaning) (p : Model) (rows : Rows) where
         | inr above ↦ rw (le-ltb k (a.count p) above) (kb (k - a.count p) n (omega arith))
       ]
 
-  pub split-first : a.count p + b.count p ≤ 65537 → KeepsAll (paired a b) p rows → KeepsAll a p rows
-  split-first few all k n h = rw (lt-ltb k (a.count p) h) at (all k n (omega arith))
+  pub split_first : a.count p + b.count p ≤ 65537 → KeepsAll (paired a b) p rows → KeepsAll a p rows
+  split_first few all k n h = rw (lt-ltb k (a.count p) h) at (all k n (omega arith))
 
-  pub split-second : a.count p + b.count p ≤ 65537 → KeepsAll (paired a b) p rows → KeepsAll b p rows
-  split-second few all k n h =
+  pub split_second : a.count p + b.count p ≤ 65537 → KeepsAll (paired a b) p rows → KeepsAll b p rows
+  split_second few all k n h =
       let above : a.count p ≤ a.count p + k = omega arith in
       let back : a.count p + k - a.count p ≡ k = omega arith in
       rw back at (rw (le-ltb (a.count p + k) (a.count p) above) at (all (a.count p + k) n (omega arith)))

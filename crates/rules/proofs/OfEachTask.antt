@@ -21,22 +21,22 @@ pub one_some : {X : Type 0} (o : Option X) (x y : X) → o ≡ Some x → o ≡ 
 one_some o x y p q = cc
 
 module _ (rule : ℕ) (Wanted : Model → Task → RowModel → ℕ → Type 0) where
-  pub each-reach : Reach (of_each_task rule Wanted)
-  each-reach p a b t n sa sb h same kept row e = kept row (same t (has_first t (t ∷ [])) ∙ e)
+  pub each_reach : Reach (of_each_task rule Wanted)
+  each_reach p a b t n sa sb h same kept row e = kept row (same t (has_first t (t ∷ [])) ∙ e)
 
-  pub each-absence : Absence (of_each_task rule Wanted)
-  each-absence p rows t n u s h has none row e =
+  pub each_absence : Absence (of_each_task rule Wanted)
+  each_absence p rows t n u s h has none row e =
       absurd (none_some (row_at rows u) row none (subst (λ (z : ℕ). row_at rows z ≡ Some row) (⊎_elim (λ (e : t ≡ u). e) (λ (e : t ≡ u). e) (has_two t t u has)) e))
 
   module _ (p : Model) (rows : Rows) (t : ℕ) where
-    pub each-absent : row_at rows t ≡ None → Keeps (of_each_task rule Wanted) p rows t
-    each-absent none n h row e = absurd (none_some (row_at rows t) row none e)
+    pub each_absent : row_at rows t ≡ None → Keeps (of_each_task rule Wanted) p rows t
+    each_absent none n h row e = absurd (none_some (row_at rows t) row none e)
 
-    pub each-kept : (x : Placed) → PlacedAs p rows t x → ((n : ℕ) → Wanted p x.task (row_model x.row) n) → Keeps (of_each_task rule Wanted) p rows t
-    each-kept x at wanted n h row e =
+    pub each_kept : (x : Placed) → PlacedAs p rows t x → ((n : ℕ) → Wanted p x.task (row_model x.row) n) → Keeps (of_each_task rule Wanted) p rows t
+    each_kept x at wanted n h row e =
         subst (λ (r : RowModel). Wanted p (task_at p t) r n) (one_some (row_at rows t) (row_model x.row) row at.row e)
         (subst (λ (task : Task). Wanted p task (row_model x.row) n) at.task (wanted n))
 
-    pub each-broken : (x : Placed) → PlacedAs p rows t x → (n : ℕ) → (Wanted p x.task (row_model x.row) n → ⊥) → Breaks (of_each_task rule Wanted) p rows t
-    each-broken x at n unwanted =
+    pub each_broken : (x : Placed) → PlacedAs p rows t x → (n : ℕ) → (Wanted p x.task (row_model x.row) n → ⊥) → Breaks (of_each_task rule Wanted) p rows t
+    each_broken x at n unwanted =
         (n, λ kept. unwanted (subst (λ (task : Task). Wanted p task (row_model x.row) n) (sym at.task) (kept at.number (row_model x.row) at.row)))

@@ -35,8 +35,8 @@ without_part rows t = record {
 
 module _ (m : Meaning) (p : Model) where
   -- a part of a table of lawful shape has lawful shape
-  pub shaped-part : (part whole : Rows) → PartOf part whole → Shaped p whole → Shaped p part
-  shaped-part part whole of s = record {
+  pub shaped_part : (part whole : Rows) → PartOf part whole → Shaped p whole → Shaped p part
+  shaped_part part whole of s = record {
     problem = s.problem;
     places = of.places ∙ s.places;
     shapes = λ t row e. elim (of.rows t) [
@@ -46,14 +46,14 @@ module _ (m : Meaning) (p : Model) where
   }
 
   -- from a lawful table, changing rows leaves every place that names none of their tasks kept
-  pub unnamed-kept : Reach m → (before after : Rows) (k : ℕ) → Lawful m p before → Shaped p after → ((t : ℕ) → Names m p k t → Agree before after t) → Keeps m p after k
-  unnamed-kept reach before after k l s same n h =
+  pub unnamed_kept : Reach m → (before after : Rows) (k : ℕ) → Lawful m p before → Shaped p after → ((t : ℕ) → Names m p k t → Agree before after t) → Keeps m p after k
+  unnamed_kept reach before after k l s same n h =
       reach p before after k n l.shape s h (λ t has. same t (named_below m p k t h has)) (l.keeps k n h)
 
   -- every part of a lawful table is lawful
-  pub lawful-part : Reach m → Absence m → (part whole : Rows) → PartOf part whole → Lawful m p whole → Lawful m p part
-  lawful-part reach absence part whole of l =
-      let s = shaped-part part whole of l.shape in
+  pub lawful_part : Reach m → Absence m → (part whole : Rows) → PartOf part whole → Lawful m p whole → Lawful m p part
+  lawful_part reach absence part whole of l =
+      let s = shaped_part part whole of l.shape in
       record {
         shape = s;
         keeps = λ k n h. elim (missing_or_same part whole of (m.tasks p k)) [
@@ -64,22 +64,22 @@ module _ (m : Meaning) (p : Model) where
 
 module _ (m : Meaning) (p : Model) (a b : ℕ) (before after : Rows) (reach : Reach m) (l : Lawful m p before) (s : Shaped p after) (differ : DifferAt a b before after) where
   -- a place that names neither of two changed tasks is kept
-  neither-kept : (k : ℕ) → (NamesEither m p k a b → ⊥) → Keeps m p after k
-  neither-kept k none =
-      unnamed-kept m p reach before after k l s (λ t named.
+  neither_kept : (k : ℕ) → (NamesEither m p k a b → ⊥) → Keeps m p after k
+  neither_kept k none =
+      unnamed_kept m p reach before after k l s (λ t named.
       differ t (λ e. none (inl (subst (λ (u : ℕ). Names m p k u) e named))) (λ e. none (inr (subst (λ (u : ℕ). Names m p k u) e named))))
 
   -- a place is kept if it is wherever it names one of the two
-  either-kept : (k : ℕ) → (NamesEither m p k a b → Keeps m p after k) → Keeps m p after k
-  either-kept k kept =
+  either_kept : (k : ℕ) → (NamesEither m p k a b → Keeps m p after k) → Keeps m p after k
+  either_kept k kept =
       elim (has_or_not (tasks_of m p k) a) [
         | inl named ↦ kept (inl named)
         | inr noa ↦ elim (has_or_not (tasks_of m p k) b) [
           | inl named ↦ kept (inr named)
-          | inr nob ↦ neither-kept k (λ named. elim named [ inl h ↦ noa h | inr h ↦ nob h ])
+          | inr nob ↦ neither_kept k (λ named. elim named [ inl h ↦ noa h | inr h ↦ nob h ])
         ]
       ]
 
-  pub found-after-change : (found : Option ℕ) → FoundNaming m p after a b found → Found m p after found
-  found-after-change None all = record { shape = s; keeps = λ k. either-kept k (all k) }
-  found-after-change (Some k) first = record { broken = first.broken; before = λ j h. either-kept j (first.before j h) }
+  pub found_after_change : (found : Option ℕ) → FoundNaming m p after a b found → Found m p after found
+  found_after_change None all = record { shape = s; keeps = λ k. either_kept k (all k) }
+  found_after_change (Some k) first = record { broken = first.broken; before = λ j h. either_kept j (first.before j h) }

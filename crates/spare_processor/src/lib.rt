@@ -4,7 +4,7 @@
 ghost use Rattle.spare_processor.specs.Spare.{Elsewhere, spare_rule};
 ghost use Rattle.std.specs.Prelude.{Decides};
 ghost use Rattle.table.specs.Row.{row_model};
-ghost use Rattle.rules.proofs.OfEachTask.{each-absence};
+ghost use Rattle.rules.proofs.OfEachTask.{each_absence};
 ghost use Rattle.std.proofs.Common.{rules};
 
 use problem::problem::Problem;
@@ -33,7 +33,7 @@ impl Rule for SpareProcessor {
 
     ghost reach = { Prim.search rules };
 
-    ghost absence = { λ s. each-absence 100 (λ _ _ row _. Elsewhere s.processor row) };
+    ghost absence = { λ s. each_absence 100 (λ _ _ row _. Elsewhere s.processor row) };
 
     fn count(&self, problem: &Problem) -> u32 {
         each_task::count(problem)

@@ -16,16 +16,16 @@ pub record TurnsTo (parts : List Part) (i last : ℕ) : Type 0 where
   pub after : (k : ℕ) → k < i → end_before parts k ≤ (get_or parts k no_part).begin
 
 module _ (parts : List Part) where
-  pub turns-none : TurnsTo parts 0 0
-  turns-none = record { last_is = omega arith; spans = λ k h. absurd (omega arith); after = λ k h. absurd (omega arith) }
+  pub turns_none : TurnsTo parts 0 0
+  turns_none = record { last_is = omega arith; spans = λ k h. absurd (omega arith); after = λ k h. absurd (omega arith) }
 
   -- a part that comes after the one before it
-  pub turns-after : InTurn parts → (k : ℕ) → k < length parts → end_before parts k ≤ (get_or parts k no_part).begin
-  turns-after t zero h = omega arith
-  turns-after t (suc k) h = rw add-one at (t.ordered k (omega arith))
+  pub turns_after : InTurn parts → (k : ℕ) → k < length parts → end_before parts k ≤ (get_or parts k no_part).begin
+  turns_after t zero h = omega arith
+  turns_after t (suc k) h = rw add-one at (t.ordered k (omega arith))
 
-  pub turns-all : (i last : ℕ) → TurnsTo parts i last → length parts ≤ i → InTurn parts
-  turns-all i last t all = record {
+  pub turns_all : (i last : ℕ) → TurnsTo parts i last → length parts ≤ i → InTurn parts
+  turns_all i last t all = record {
     spans = λ k h. t.spans k (omega arith);
     ordered = λ k h. rw add-one (t.after (suc k) (omega arith));
   }

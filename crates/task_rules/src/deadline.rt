@@ -2,7 +2,7 @@ ghost use Rattle.std.specs.Prelude.{Decides};
 ghost use Rattle.table.specs.Row.{row_model};
 ghost use Rattle.task_rules.specs.Meanings.{deadline_rule};
 ghost use Rattle.task_rules.specs.Wanted.{OnTime};
-ghost use Rattle.rules.proofs.OfEachTask.{each-absence};
+ghost use Rattle.rules.proofs.OfEachTask.{each_absence};
 ghost use Rattle.std.proofs.Common.{rules};
 
 use problem::problem::Problem;
@@ -32,7 +32,7 @@ impl Rule for Deadline {
 
     ghost reach = { Prim.search rules };
 
-    ghost absence = { λ _. each-absence 6 (λ _ task row _. OnTime task row) };
+    ghost absence = { λ _. each_absence 6 (λ _ task row _. OnTime task row) };
 
     fn count(&self, problem: &Problem) -> u32 {
         each_task::count(problem)

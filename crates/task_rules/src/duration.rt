@@ -2,7 +2,7 @@ ghost use Rattle.std.specs.Prelude.{◌≡◌, ◌≤◌, length, Decides};
 ghost use Rattle.table.specs.Row.{row_model};
 ghost use Rattle.task_rules.specs.Meanings.{duration_rule};
 ghost use Rattle.task_rules.specs.Wanted.{LongEnough, ticks_of};
-ghost use Rattle.rules.proofs.OfEachTask.{each-absence};
+ghost use Rattle.rules.proofs.OfEachTask.{each_absence};
 ghost use Rattle.std.proofs.Common.{rules};
 
 use problem::problem::Problem;
@@ -43,7 +43,7 @@ impl Rule for Duration {
 
     ghost reach = { Prim.search rules };
 
-    ghost absence = { λ _. each-absence 2 (λ _ task row _. LongEnough task row) };
+    ghost absence = { λ _. each_absence 2 (λ _ task row _. LongEnough task row) };
 
     fn count(&self, problem: &Problem) -> u32 {
         each_task::count(problem)

@@ -2,7 +2,7 @@ ghost use Rattle.std.specs.Prelude.{Decides};
 ghost use Rattle.table.specs.Row.{row_model};
 ghost use Rattle.task_rules.specs.Meanings.{whole_rule};
 ghost use Rattle.task_rules.specs.Wanted.{Unsplit};
-ghost use Rattle.rules.proofs.OfEachTask.{each-absence};
+ghost use Rattle.rules.proofs.OfEachTask.{each_absence};
 ghost use Rattle.std.proofs.Common.{rules};
 
 use problem::problem::Problem;
@@ -29,7 +29,7 @@ impl Rule for Whole {
 
     ghost reach = { Prim.search rules };
 
-    ghost absence = { λ _. each-absence 3 (λ _ task row _. Unsplit task row) };
+    ghost absence = { λ _. each_absence 3 (λ _ task row _. Unsplit task row) };
 
     fn count(&self, problem: &Problem) -> u32 {
         each_task::count(problem)

@@ -4,14 +4,14 @@ use Rattle.std.proofs.lemmas.Nat.{div-add-mod', mod_below}
 use Rattle.std.proofs.lemmas.Bool.{cases_lt}
 
 module _ (frame b e wb we : ℕ) (some : 1 ≤ frame) (be : b < e) (wf : we ≤ frame) where
-  pub inside-from : wb ≤ b % frame → b % frame + (e - b) ≤ we → (n : ℕ) → (k : ℕ) × (wb + k * frame ≤ b + n * frame) × (e + n * frame ≤ we + k * frame)
-  inside-from h1 h2 n =
+  pub inside_from : wb ≤ b % frame → b % frame + (e - b) ≤ we → (n : ℕ) → (k : ℕ) × (wb + k * frame ≤ b + n * frame) × (e + n * frame ≤ we + k * frame)
+  inside_from h1 h2 n =
       let d = div-add-mod' b frame in
       let m = add-mul (b / frame) n frame in
       (b / frame + n, omega arith, omega arith)
 
-  pub inside-to : (n k : ℕ) → wb + k * frame ≤ b + n * frame → e + n * frame ≤ we + k * frame → (wb ≤ b % frame) × (b % frame + (e - b) ≤ we)
-  inside-to n k h1 h2 =
+  pub inside_to : (n k : ℕ) → wb + k * frame ≤ b + n * frame → e + n * frame ≤ we + k * frame → (wb ≤ b % frame) × (b % frame + (e - b) ≤ we)
+  inside_to n k h1 h2 =
       let d = div-add-mod' b frame in
       let r = mod_below b frame some in
       let m = add-mul (b / frame) n frame in

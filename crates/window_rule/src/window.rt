@@ -3,7 +3,7 @@ ghost use Rattle.problem.specs.Model.{model};
 ghost use Rattle.table.specs.Row.{row_model};
 ghost use Rattle.table.specs.Shape.{LawfulShape};
 ghost use Rattle.window_rule.specs.Windows.{InWindows, Inside, Served, window_rule};
-ghost use Rattle.rules.proofs.OfEachTask.{each-absence};
+ghost use Rattle.rules.proofs.OfEachTask.{each_absence};
 ghost use Rattle.std.proofs.Common.{rules};
 
 use problem::problem::Problem;
@@ -68,7 +68,7 @@ impl Rule for Windows {
 
     ghost reach = { Prim.search rules };
 
-    ghost absence = { λ _. each-absence 4 InWindows };
+    ghost absence = { λ _. each_absence 4 InWindows };
 
     fn count(&self, problem: &Problem) -> u32 {
         each_task::count(problem)

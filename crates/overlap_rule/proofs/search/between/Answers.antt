@@ -4,9 +4,9 @@ use Rattle.std.proofs.lemmas.Bool.Decides.{not_from_Decides}
 use Rattle.problem.specs.Model.{model}
 use Rattle.problem.proofs.Known.{knows}
 use Rattle.table.specs.Row.{row_model}
-use Rattle.table.proofs.Spread.{ends-before}
+use Rattle.table.proofs.Spread.{ends_before}
 use Rattle.overlap_rule.specs.Search.{Clear}
-use Rattle.overlap_rule.specs.Apart.{below_last, below_more_ℤ, clear_apart, earlier-clear, next_distance, test_gt, test_le}
+use Rattle.overlap_rule.specs.Apart.{below_last, below_more_ℤ, clear_apart, earlier_clear, next_distance, test_gt, test_le}
 use Rattle.overlap_rule.proofs.search.between.Goals as goal
 use Rattle.overlap_rule.proofs.search.between.Goals.{else-share_tick-via-then-share_tick+else-not-never_both, else-share_tick-via-else-share_tick}
 
@@ -20,8 +20,8 @@ share_tick-requires c =
       frame = few.0.1;
       low = c.loop-distance.invariant.0;
       high = test_le _ _ c.loop-distance-test.true;
-      first = (a.turns.spans x c.loop-first-test.true, omega (arith, ends-before d (row_model c.args.a.now) a x c.loop-first-test.true, a.starts));
-      second = (b.turns.spans y c.loop-second-test.true, omega (arith, ends-before d (row_model c.args.b.now) b y c.loop-second-test.true, b.starts));
+      first = (a.turns.spans x c.loop-first-test.true, omega (arith, ends_before d (row_model c.args.a.now) a x c.loop-first-test.true, a.starts));
+      second = (b.turns.spans y c.loop-second-test.true, omega (arith, ends_before d (row_model c.args.b.now) b y c.loop-second-test.true, b.starts));
     }
 
 pub loop-second-preserved : goal.loop-second-preserved
@@ -59,5 +59,5 @@ returns-then-not-never_both c =
       second = c.loop-second-test.true;
       shared = λ n m e. (c.share_tick.ensures n m e).0 c.if-share_tick.true;
       unexcused = λ n m e. not_from_Decides c.never_both.result (c.never_both.ensures n m e) c.if-not-never_both.true;
-      before = earlier-clear (model c.args.problem.now) c.args.i c.args.j (row_model c.args.a.now) (row_model c.args.b.now) _ c.loop-distance.invariant.2 c.loop-first.invariant c.loop-second.invariant;
+      before = earlier_clear (model c.args.problem.now) c.args.i c.args.j (row_model c.args.a.now) (row_model c.args.b.now) _ c.loop-distance.invariant.2 c.loop-first.invariant c.loop-second.invariant;
     }

@@ -3,7 +3,7 @@ use Rattle.std.proofs.lemmas.Bool.Decides.{not_from_Decides}
 use Rattle.table.proofs.Known.{knows}
 use Rattle.table.specs.Table.{problem_of, rows_of}
 use Rattle.rules.specs.Search.{FoundNaming}
-use Rattle.rules.proofs.Theory.{found-after-change}
+use Rattle.rules.proofs.Theory.{found_after_change}
 use Rattle.rules.proofs.naming.first_broken_naming.Goals as goal
 use Rattle.rules.proofs.naming.first_broken_naming.Goals.{then-names_either+in-Kept, else-names_either}
 
@@ -23,7 +23,7 @@ returns g c =
     λ k named n h. c.loop-place.invariant k (omega (arith, c.count-place-end.ensures.value, c.loop-place-test.false)) named n h in
     record {
       found = all;
-      whole = λ before l differ. found-after-change m (problem_of t) c.args.first c.args.second before (rows_of t) (g.met.R.Rule.reach c.args.book.now) l (knows t) differ None all;
+      whole = λ before l differ. found_after_change m (problem_of t) c.args.first c.args.second before (rows_of t) (g.met.R.Rule.reach c.args.book.now) l (knows t) differ None all;
     }
 
 pub returns-in-Broken : goal.returns-in-Broken
@@ -34,5 +34,5 @@ returns-in-Broken g c =
     record { named = c.names_either.ensures.0 c.if-names_either.true; broken = c.in-Broken.ensures; before = c.loop-place.invariant } in
     record {
       found = first;
-      whole = λ before l differ. found-after-change m (problem_of t) c.args.first c.args.second before (rows_of t) (g.met.R.Rule.reach c.args.book.now) l (knows t) differ (Some c.loop-place.place) first;
+      whole = λ before l differ. found_after_change m (problem_of t) c.args.first c.args.second before (rows_of t) (g.met.R.Rule.reach c.args.book.now) l (knows t) differ (Some c.loop-place.place) first;
     }

@@ -2,7 +2,7 @@ use Rattle.std.proofs.Common.{arith, below_more}
 use Rattle.table.proofs.Known.{knows}
 use Rattle.rules.specs.Lawful.{Lawful}
 use Rattle.table.specs.Table.{problem_of, rows_of}
-use Rattle.rules.proofs.Theory.{lawful-part, unnamed-kept}
+use Rattle.rules.proofs.Theory.{lawful_part, unnamed_kept}
 use Rattle.rules.proofs.search.first_broken.Goals as goal
 
 pub loop-place-preserved : goal.loop-place-preserved
@@ -21,7 +21,7 @@ returns g c =
     record {
       found = lawful;
       lasting = record {
-        parts = λ part of. lawful-part m p reach (g.met.R.Rule.absence c.args.book.now) part rows of lawful;
-        unnamed = λ after k s same. unnamed-kept m p reach rows after k lawful s same;
+        parts = λ part of. lawful_part m p reach (g.met.R.Rule.absence c.args.book.now) part rows of lawful;
+        unnamed = λ after k s same. unnamed_kept m p reach rows after k lawful s same;
       };
     }

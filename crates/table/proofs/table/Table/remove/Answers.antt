@@ -16,7 +16,7 @@ invariant_of-self c =
     record {
       counted = counted_set t.rows.items c.args.task None t.counted (omega arith);
       shaped = ∣ subst (λ (rows : Rows). Shaped (problem_of t) rows) (sym (slots_set t.rows.items c.args.task None))
-            (shaped_set (problem_of t) (rows_of t) c.args.task None (knows t) (λ row e. absurd (let z : ◌≡◌ {A = ℕ} 0 1 = cc in omega arith))) ∣₁;
+          (shaped_set (problem_of t) (rows_of t) c.args.task None (knows t) (λ row e. absurd (let z : ◌≡◌ {A = ℕ} 0 1 = cc in omega arith))) ∣₁;
     }
 
 pub returns-then-task-len : goal.returns-then-task-len

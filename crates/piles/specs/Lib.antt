@@ -4,3 +4,4 @@ pub mod Waive
 pub mod Confinement
 pub mod Paired
 pub mod Alike
+pub mod Kept

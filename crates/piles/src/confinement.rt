@@ -2,7 +2,7 @@ ghost use Rattle.std.specs.Prelude.{◌<◌, Decides};
 ghost use Rattle.piles.specs.Confinement.{AllIn, confined};
 ghost use Rattle.problem.specs.Model.{model};
 ghost use Rattle.std.specs.List.{AllByRecursion as All};
-ghost use Rattle.std.proofs.Common.{rules};
+ghost use Rattle.piles.specs.Kept.{confined_reach, confined_absence};
 
 use problem::problem::Problem;
 use rules::judgement::Judgement;
@@ -38,9 +38,9 @@ fn all_in(partition: u32, problem: &Problem, tasks: &[u32; 2]) -> bool
 impl<R: Rule> Rule for Confinement<R> {
     ghost meaning = { λ s. confined s.partition (R.Rule.meaning s.rule) };
 
-    ghost reach = { Prim.search rules };
+    ghost reach = { λ r. confined_reach r.partition (R.Rule.meaning r.rule) (R.Rule.reach r.rule) };
 
-    ghost absence = { Prim.search rules };
+    ghost absence = { λ r. confined_absence r.partition (R.Rule.meaning r.rule) (R.Rule.absence r.rule) };
 
     fn count(&self, problem: &Problem) -> u32 {
         self.rule.count(problem)

@@ -1,5 +1,5 @@
 ghost use Rattle.piles.specs.Waiver.{listed, waived};
-ghost use Rattle.std.proofs.Common.{rules, arith};
+ghost use Rattle.piles.specs.Kept.{waived_reach, waived_absence};
 
 use crate::waiver::Waiver;
 use problem::problem::Problem;
@@ -11,9 +11,9 @@ use table::table::Table;
 impl<R: Rule> Rule for Waiver<R> {
     ghost meaning = { λ s. waived (listed s) (R.Rule.meaning s.rule) };
 
-    ghost reach = { first_of (Prim.search rules, Prim.grind (arith, Self.row.coded.inj)) };
+    ghost reach = { λ r. waived_reach (listed r) (R.Rule.meaning r.rule) (R.Rule.reach r.rule) };
 
-    ghost absence = { first_of (Prim.search rules, Prim.grind (arith, Self.row.coded.inj)) };
+    ghost absence = { λ r. waived_absence (listed r) (R.Rule.meaning r.rule) (R.Rule.absence r.rule) };
 
     fn count(&self, problem: &Problem) -> u32 {
         self.rule.count(problem)

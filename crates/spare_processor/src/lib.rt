@@ -4,8 +4,7 @@
 ghost use Rattle.spare_processor.specs.Spare.{Elsewhere, spare_rule};
 ghost use Rattle.std.specs.Prelude.{Decides};
 ghost use Rattle.table.specs.Row.{row_model};
-ghost use Rattle.rules.proofs.OfEachTask.{each_absence};
-ghost use Rattle.std.proofs.Common.{rules};
+ghost use Rattle.rules.proofs.OfEachTask.{each_reach, each_absence};
 
 use problem::problem::Problem;
 use rules::each_task;
@@ -31,7 +30,7 @@ fn elsewhere(spare: u32, row: &Row<'_>) -> bool
 impl Rule for SpareProcessor {
     ghost meaning = { λ s. spare_rule s.processor };
 
-    ghost reach = { Prim.search rules };
+    ghost reach = { λ s. each_reach 100 (λ _ _ row _. Elsewhere s.processor row) };
 
     ghost absence = { λ s. each_absence 100 (λ _ _ row _. Elsewhere s.processor row) };
 

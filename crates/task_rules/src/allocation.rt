@@ -2,8 +2,7 @@ ghost use Rattle.std.specs.Prelude.{Decides};
 ghost use Rattle.table.specs.Row.{row_model};
 ghost use Rattle.task_rules.specs.Meanings.{allocation_rule};
 ghost use Rattle.task_rules.specs.Wanted.{Allocated};
-ghost use Rattle.rules.proofs.OfEachTask.{each_absence};
-ghost use Rattle.std.proofs.Common.{rules};
+ghost use Rattle.rules.proofs.OfEachTask.{each_reach, each_absence};
 
 use problem::problem::Problem;
 use rules::each_task;
@@ -27,7 +26,7 @@ fn allocated(placed: &Placed<'_>) -> bool
 impl Rule for Allocation {
     ghost meaning = { λ _. allocation_rule };
 
-    ghost reach = { Prim.search rules };
+    ghost reach = { λ _. each_reach 1 (λ _ task row _. Allocated task row) };
 
     ghost absence = { λ _. each_absence 1 (λ _ task row _. Allocated task row) };
 

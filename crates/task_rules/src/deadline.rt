@@ -2,8 +2,7 @@ ghost use Rattle.std.specs.Prelude.{Decides};
 ghost use Rattle.table.specs.Row.{row_model};
 ghost use Rattle.task_rules.specs.Meanings.{deadline_rule};
 ghost use Rattle.task_rules.specs.Wanted.{OnTime};
-ghost use Rattle.rules.proofs.OfEachTask.{each_absence};
-ghost use Rattle.std.proofs.Common.{rules};
+ghost use Rattle.rules.proofs.OfEachTask.{each_reach, each_absence};
 
 use problem::problem::Problem;
 use rules::each_task;
@@ -30,7 +29,7 @@ fn on_time(placed: &Placed<'_>) -> bool
 impl Rule for Deadline {
     ghost meaning = { λ _. deadline_rule };
 
-    ghost reach = { Prim.search rules };
+    ghost reach = { λ _. each_reach 6 (λ _ task row _. OnTime task row) };
 
     ghost absence = { λ _. each_absence 6 (λ _ task row _. OnTime task row) };
 

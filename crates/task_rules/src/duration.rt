@@ -2,8 +2,7 @@ ghost use Rattle.std.specs.Prelude.{◌≡◌, ◌≤◌, length, Decides};
 ghost use Rattle.table.specs.Row.{row_model};
 ghost use Rattle.task_rules.specs.Meanings.{duration_rule};
 ghost use Rattle.task_rules.specs.Wanted.{LongEnough, ticks_of};
-ghost use Rattle.rules.proofs.OfEachTask.{each_absence};
-ghost use Rattle.std.proofs.Common.{rules};
+ghost use Rattle.rules.proofs.OfEachTask.{each_reach, each_absence};
 
 use problem::problem::Problem;
 use rules::each_task;
@@ -41,7 +40,7 @@ fn long_enough(placed: &Placed<'_>) -> bool
 impl Rule for Duration {
     ghost meaning = { λ _. duration_rule };
 
-    ghost reach = { Prim.search rules };
+    ghost reach = { λ _. each_reach 2 (λ _ task row _. LongEnough task row) };
 
     ghost absence = { λ _. each_absence 2 (λ _ task row _. LongEnough task row) };
 

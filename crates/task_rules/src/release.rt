@@ -2,8 +2,7 @@ ghost use Rattle.std.specs.Prelude.{Decides};
 ghost use Rattle.table.specs.Row.{row_model};
 ghost use Rattle.task_rules.specs.Meanings.{release_rule};
 ghost use Rattle.task_rules.specs.Wanted.{Released};
-ghost use Rattle.rules.proofs.OfEachTask.{each_absence};
-ghost use Rattle.std.proofs.Common.{rules};
+ghost use Rattle.rules.proofs.OfEachTask.{each_reach, each_absence};
 
 use problem::problem::Problem;
 use rules::each_task;
@@ -27,7 +26,7 @@ fn released(placed: &Placed<'_>) -> bool
 impl Rule for Release {
     ghost meaning = { λ _. release_rule };
 
-    ghost reach = { Prim.search rules };
+    ghost reach = { λ _. each_reach 5 (λ _ task row _. Released task row) };
 
     ghost absence = { λ _. each_absence 5 (λ _ task row _. Released task row) };
 

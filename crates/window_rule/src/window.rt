@@ -3,8 +3,7 @@ ghost use Rattle.problem.specs.Model.{model};
 ghost use Rattle.table.specs.Row.{row_model};
 ghost use Rattle.table.specs.Shape.{LawfulShape};
 ghost use Rattle.window_rule.specs.Windows.{InWindows, Inside, Served, window_rule};
-ghost use Rattle.rules.proofs.OfEachTask.{each_absence};
-ghost use Rattle.std.proofs.Common.{rules};
+ghost use Rattle.rules.proofs.OfEachTask.{each_reach, each_absence};
 
 use problem::problem::Problem;
 use problem::window::Window;
@@ -66,7 +65,7 @@ fn in_windows(problem: &Problem, placed: &Placed<'_>) -> bool
 impl Rule for Windows {
     ghost meaning = { λ _. window_rule };
 
-    ghost reach = { Prim.search rules };
+    ghost reach = { λ _. each_reach 4 InWindows };
 
     ghost absence = { λ _. each_absence 4 InWindows };
 

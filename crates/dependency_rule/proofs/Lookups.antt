@@ -1,5 +1,5 @@
 -- What a problem has under a number: something below the count, and nothing at or above it.
-use Rattle.std.proofs.Common.{◌≡◌, ℕ, ◌<◌, ◌≤◌, true, false, cond, ltb, ◌⊎◌, Some, None, Option, inl, inr, arith}
+use Rattle.std.proofs.Common.{◌≡◌, ℕ, ◌<◌, ◌≤◌, cond, ltb, Some, None, inl, inr, arith}
 use Rattle.std.proofs.lemmas.Bool.{cases_lt, cond-true, cond-false, lt-ltb, le-ltb}
 
 pub some_below : {X : Type 0} (k n : ℕ) (x y : X) → Some x ≡ cond (ltb k n) (Some y) None → (k < n) × (x ≡ y)

@@ -1,5 +1,5 @@
 -- The laws of the rule on dependencies, and how its places are judged.
-use Rattle.std.specs.Prelude.{◌≡◌, ℕ, ◌<◌, ◌⊎◌, [], ◌∷◌, length, Some}
+use Rattle.std.specs.Prelude.{◌≡◌, ℕ, ◌<◌, [], ◌∷◌, length, Some}
 use Rattle.std.proofs.Common.{inl, inr, sym, subst, ◌∙◌}
 use Rattle.problem.specs.declared.dependency.Dependency.{Dependency}
 use Rattle.problem.specs.Lookup.{dependency_at}

@@ -1,5 +1,5 @@
 -- Two rows are apart in every frame if they are clear of each other at the distances from -3 to 3.
-use Rattle.std.specs.Prelude.{◌≡◌, ℕ, ◌+◌, ◌-◌, ◌*◌, ◌<◌, ◌≤◌, true, false, ◌⊎◌, length, ℤ, pos, negsuc, ◌+ℤ◌, ◌-ℤ◌, ◌≤ℤ◌, ◌<ℤ◌, int_le, slice_index_or}
+use Rattle.std.specs.Prelude.{◌≡◌, ℕ, ◌+◌, ◌-◌, ◌*◌, ◌<◌, ◌≤◌, true, false, length, ℤ, pos, negsuc, ◌+ℤ◌, ◌-ℤ◌, ◌≤ℤ◌, ◌<ℤ◌, int_le, slice_index_or}
 use Rattle.std.proofs.Common.{inl, inr, sym, subst, to_z, of_z, add-mul, mul-le-mul_right, arith}
 use Rattle.std.specs.Int.{w64}
 use Rattle.std.proofs.ByRecursion.{has_get_or}

@@ -1,5 +1,5 @@
 -- The laws of the rule on overlaps, and how its places are judged.
-use Rattle.std.specs.Prelude.{◌≡◌, ℕ, ◌/◌, ◌%◌, ◌<◌, ◌⊎◌, [], ◌∷◌, Some, None, Option}
+use Rattle.std.specs.Prelude.{◌≡◌, ℕ, ◌/◌, ◌%◌, [], ◌∷◌, Some, None, Option}
 use Rattle.std.proofs.Common.{inl, inr, sym, subst, ◌∙◌}
 use Rattle.problem.specs.Limits.{Model}
 use Rattle.table.specs.Rows.{RowModel, Rows, row_at}
@@ -8,7 +8,7 @@ use Rattle.rules.specs.Meaning.{Reach, Absence}
 use Rattle.rules.proofs.Named.{has_first, has_later, has_two}
 use Rattle.rules.proofs.OfEachTask.{none_some, one_some}
 use Rattle.overlap_rule.specs.declared.overlap.Overlap.{Overlap}
-use Rattle.overlap_rule.specs.Overlaps.{ApartIn, OverlapKept, overlap_rule}
+use Rattle.overlap_rule.specs.Overlaps.{ApartIn, overlap_rule}
 use Rattle.overlap_rule.specs.Search.{FoundBetween, FoundOverlap}
 use Rattle.overlap_rule.specs.Apart.{overlap_broken}
 

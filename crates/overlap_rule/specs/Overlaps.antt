@@ -1,4 +1,4 @@
-use Rattle.std.specs.Prelude.{◌≡◌, ℕ, ◌+◌, ◌*◌, ◌/◌, ◌%◌, ◌<◌, ◌≤◌, [], ◌∷◌, Some}
+use Rattle.std.specs.Prelude.{◌≡◌, ℕ, ◌*◌, ◌/◌, ◌%◌, ◌<◌, [], ◌∷◌, Some}
 use Rattle.problem.specs.Limits.{Model}
 use Rattle.table.specs.Rows.{RowModel, Rows, row_at}
 use Rattle.rules.specs.Meaning.{Meaning}

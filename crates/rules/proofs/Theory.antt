@@ -1,17 +1,17 @@
 -- What the laws give: a change of some rows leaves the places that do not name their tasks kept, and every part of a lawful table is lawful.
-use Rattle.std.proofs.Common.{◌≡◌, ℕ, ◌<◌, ◌⊎◌, List, [], ◌∷◌, Some, None, Option, sym, refl, ◌∙◌, subst, inl, inr, arith}
+use Rattle.std.proofs.Common.{◌≡◌, ℕ, ◌⊎◌, List, [], ◌∷◌, Some, None, Option, sym, refl, ◌∙◌, subst, inl, inr, arith}
 use Rattle.std.proofs.ByRecursion.{all-has}
 use Rattle.std.proofs.lemmas.List.{length-set}
 use Rattle.std.specs.List.{ContainsAt as Has, AllByRecursion as All}
 use Rattle.problem.specs.Limits.{Model}
 use Rattle.table.specs.Put.{without}
-use Rattle.table.specs.Rows.{RowModel, Rows, row_at, Agree}
+use Rattle.table.specs.Rows.{Rows, row_at, Agree}
 use Rattle.table.specs.Shape.{Shaped}
 use Rattle.table.proofs.Shapes.{set_at}
-use Rattle.rules.specs.Judged.{Keeps, Breaks}
-use Rattle.rules.specs.Lawful.{Lawful, FirstBroken, PartOf, DifferAt}
+use Rattle.rules.specs.Judged.{Keeps}
+use Rattle.rules.specs.Lawful.{Lawful, PartOf, DifferAt}
 use Rattle.rules.specs.Meaning.{Meaning, Reach, Absence, Names, tasks_of}
-use Rattle.rules.specs.Search.{NamesEither, FirstNaming, FoundNaming, Found, FoundAfterChange}
+use Rattle.rules.specs.Search.{NamesEither, FoundNaming, Found}
 use Rattle.rules.proofs.Named.{has_or_not, has_first, has_later, named_below}
 
 -- some task of the list has no row, or the tables agree on all of them

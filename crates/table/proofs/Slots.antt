@@ -1,10 +1,10 @@
 -- The rows that a table keeps, as the rows that it says.
-use Rattle.std.proofs.Common.{◌≡◌, ℕ, zero, suc, ◌<◌, ◌≤◌, ◌⊎◌, List, [], ◌∷◌, map, length, get_or, take, set, replicate, Some, None, Option, sym, refl, ap, ◌∙◌, subst, inl, inr, arith}
+use Rattle.std.proofs.Common.{◌≡◌, ℕ, zero, suc, ◌≤◌, List, [], ◌∷◌, get_or, set, replicate, Some, None, Option, sym, refl, ap, ◌∙◌, subst, inl, inr, arith}
 use Rattle.std.proofs.lemmas.List.{map-set, length-map}
 use Rattle.std.specs.Option.{option_map}
 use Rattle.table.specs.declared.stored.StoredRow.{StoredRow}
 use Rattle.table.specs.declared.table.Table.{Table}
-use Rattle.table.specs.Rows.{RowModel, Rows, row_at}
+use Rattle.table.specs.Rows.{Rows, row_at}
 use Rattle.table.specs.Stored.{Counted, count_in, stored_row, stored_rows}
 use Rattle.table.proofs.Known.{knows}
 use Rattle.table.proofs.Shapes.{set_at}

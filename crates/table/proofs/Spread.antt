@@ -1,5 +1,5 @@
 -- Where the parts of a row of lawful shape lie: from its start on, and within a frame of that.
-use Rattle.std.proofs.Common.{◌≡◌, ℕ, zero, suc, ◌+◌, ◌-◌, ◌*◌, ◌<◌, ◌≤◌, length, get_or, subst, add-one, arith}
+use Rattle.std.proofs.Common.{◌≡◌, ℕ, zero, suc, ◌+◌, ◌-◌, ◌<◌, ◌≤◌, length, get_or, subst, add-one, arith}
 use Rattle.problem.specs.declared.dimensions.Dimensions.{Dimensions}
 use Rattle.table.specs.Rows.{RowModel, no_part, start_of, end_of}
 use Rattle.table.specs.Shape.{LawfulShape}

@@ -1,5 +1,5 @@
 -- The walk over a row's parts that looks whether each comes after the one before it.
-use Rattle.std.proofs.Common.{◌≡◌, ℕ, zero, suc, ◌+◌, ◌<◌, ◌≤◌, List, length, get_or, add-one, arith}
+use Rattle.std.proofs.Common.{◌≡◌, ℕ, zero, suc, ◌<◌, ◌≤◌, List, length, get_or, add-one, arith}
 use Rattle.table.specs.declared.part.Part.{Part}
 use Rattle.table.specs.Rows.{no_part}
 use Rattle.table.specs.Shape.{InTurn}

@@ -1,4 +1,4 @@
-use Rattle.std.specs.Prelude.{◌≡◌, ℕ, ◌+◌, ◌-◌, List, [], ◌∷◌, length, get_or, replicate, None, Option, slice_index_or}
+use Rattle.std.specs.Prelude.{◌≡◌, ℕ, ◌-◌, List, length, get_or, replicate, None, Option, slice_index_or}
 use Rattle.problem.specs.Limits.{Model}
 use Rattle.table.specs.declared.part.Part.{Part}
 

@@ -1,5 +1,5 @@
 -- Lists that are made of pieces of one length.
-use Rattle.std.proofs.Common.{◌≡◌, ℕ, zero, suc, ◌+◌, ◌-◌, ◌*◌, ◌<◌, List, [], ◌∷◌, ◌++◌, map, length, get_or, take, drop, sym, refl, ap, ◌∙◌, append_assoc, append-nil, add-zero, mul-zero, mul-suc, arith, length-append}
+use Rattle.std.proofs.Common.{◌≡◌, ℕ, zero, suc, ◌+◌, ◌*◌, ◌<◌, List, [], ◌∷◌, ◌++◌, map, length, get_or, take, drop, sym, refl, ap, ◌∙◌, append_assoc, append-nil, add-zero, mul-zero, mul-suc, arith, length-append}
 use Rattle.std.proofs.lemmas.List.{take-append-drop, drop-drop, drop_all, take_at, drop_at}
 use Rattle.std.specs.List.{range_with_len, flat_map, AllByRecursion as All}
 

@@ -1,6 +1,6 @@
-use Rattle.std.proofs.Common.{ℕ, eqb, List, Decides, sym, subst, inl, inr}
+use Rattle.std.proofs.Common.{ℕ, eqb, List, Decides, subst, inl, inr}
 use Rattle.std.proofs.lemmas.List.Elements.{contains_decides}
-use Rattle.std.proofs.lemmas.Bool.Decides.{not_from_Decides, Decides-like, Decides-eqb}
+use Rattle.std.proofs.lemmas.Bool.Decides.{not_from_Decides, Decides-eqb}
 use Rattle.std.specs.List.{ContainsAt as Has}
 use Rattle.problem.specs.Model.{model}
 use Rattle.rules.specs.Meaning.{tasks_of}

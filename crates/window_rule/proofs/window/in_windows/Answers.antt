@@ -1,4 +1,4 @@
-use Rattle.std.proofs.Common.{ℕ, get_or, refl, arith, below_more}
+use Rattle.std.proofs.Common.{get_or, refl, arith, below_more}
 use Rattle.std.proofs.ByRecursion.{All-from_get_or, all-has, has_get_or}
 use Rattle.std.proofs.lemmas.Bool.{false≢true}
 use Rattle.std.proofs.lemmas.Bool.Decides.{not_from_Decides}

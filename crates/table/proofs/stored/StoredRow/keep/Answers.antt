@@ -1,7 +1,7 @@
-use Rattle.std.proofs.Common.{◌≡◌, ℕ, ◌+◌, ◌<◌, ◌≤◌, List, length, get_or, take, set, ap, ◌∙◌, subst, arith}
+use Rattle.std.proofs.Common.{◌≡◌, ℕ, ◌+◌, ◌<◌, List, length, get_or, take, set, ap, ◌∙◌, subst, arith}
 use Rattle.std.proofs.lemmas.List.{take_more_same, take_all, take-set, length-set, get_or-set_same}
 use Rattle.table.specs.declared.part.Part.{Part}
-use Rattle.table.specs.Rows.{RowModel, no_part}
+use Rattle.table.specs.Rows.{no_part}
 use Rattle.table.proofs.stored.StoredRow.keep.Goals as goal
 
 -- one part more is copied

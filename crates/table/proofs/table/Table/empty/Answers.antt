@@ -1,4 +1,4 @@
-use Rattle.std.proofs.Common.{◌≡◌, List, Option, sym, refl, ap, ◌∙◌, subst, rules}
+use Rattle.std.proofs.Common.{List, Option, sym, refl, ap, ◌∙◌, subst, rules}
 use Rattle.problem.specs.Model.{model}
 use Rattle.problem.proofs.Known.{knows}
 use Rattle.table.specs.declared.stored.StoredRow.{StoredRow}

@@ -1,10 +1,8 @@
-use Rattle.std.proofs.Common.{◌≡◌, length, set, Some, Option, sym, refl, ap, ◌∙◌, subst, arith, rules}
-use Rattle.std.proofs.lemmas.List.{length-map}
-use Rattle.std.specs.Option.{option_map}
+use Rattle.std.proofs.Common.{◌≡◌, set, Some, sym, refl, ap, ◌∙◌, subst, arith}
 use Rattle.table.specs.Row.{row_model}
 use Rattle.table.specs.Rows.{RowModel, Rows}
 use Rattle.table.specs.Shape.{LawfulShape, Shaped}
-use Rattle.table.specs.Stored.{stored_row, stored_rows}
+use Rattle.table.specs.Stored.{stored_rows}
 use Rattle.table.specs.Table.{problem_of, rows_of}
 use Rattle.table.proofs.Known.{knows}
 use Rattle.table.proofs.Shapes.{shaped_set}

@@ -1,4 +1,4 @@
-use Rattle.std.proofs.Common.{◌≡◌, ℕ, length, set, None, sym, refl, ap, ◌∙◌, subst, arith}
+use Rattle.std.proofs.Common.{◌≡◌, ℕ, None, sym, refl, subst, arith}
 use Rattle.std.proofs.lemmas.List.{length-map, set_past}
 use Rattle.std.specs.Option.{option_map}
 use Rattle.table.specs.Rows.{Rows}

@@ -4,7 +4,7 @@
 usage: python3 tools/respell.py      at the top of the repository
 
 A name turns where it is declared at the head of a line of a file of specs/ or proofs/ (or as a field or a constructor, or in a block 'module _'), and everywhere it is used: in those files, in the
-clauses of src/, and in the code spans of README.md and docs/. Types and facts keep their capitals. What Rattle makes keeps its name: a declaration at a type 'goal.x' is no name of ours.
+clauses of src/, and in the code spans of README.md and docs/. The library's AllByRecursion, imported under the name of another of its words, goes by its own. Types and facts keep their capitals. What Rattle makes keeps its name: a declaration at a type 'goal.x' is no name of ours.
 A second run changes nothing.
 """
 
@@ -55,6 +55,15 @@ def declared(text):
             yield item[1]
 
 
+def by_its_own_name(text):
+    alias = "AllByRecursion as All"
+    if alias not in text:
+        return text
+    lines = text.replace(alias, "AllByRecursion").split("\n")
+    code = re.compile(r"(?<![\w.-])All(?![\w-])")
+    return "\n".join(line if line.lstrip().startswith(("//", "--")) else code.sub("AllByRecursion", line) for line in lines)
+
+
 def written(path, text, new):
     if new != text:
         with open(path, "w", encoding="utf-8") as f:
@@ -91,11 +100,11 @@ def main():
 
     for path in antt:
         text = read(path)
-        written(path, text, WORD.sub(turn, text))
+        written(path, text, by_its_own_name(WORD.sub(turn, text)))
     ours = {old: new for old, new in names.items() if old not in LEMMAS}
     for path in sorted(glob.glob("crates/*/src/*.rt")):
         text = read(path)
-        written(path, text, re.sub(r"(?<![\w-])[a-z][A-Za-z-]*(?![\w-])", lambda m: ours.get(m[0], m[0]), text))
+        written(path, text, by_its_own_name(re.sub(r"(?<![\w-])[a-z][A-Za-z-]*(?![\w-])", lambda m: ours.get(m[0], m[0]), text)))
     spans = dict(ours)
     spans.update({name: snake(name) for name in PAGES})
     for path in ["README.md", *sorted(glob.glob("docs/*.md"))]:

@@ -5,7 +5,7 @@ use Rattle.std.proofs.lemmas.List.{get_or_default}
 use Rattle.std.proofs.lemmas.Bool.{cases_lt, not-false, not_from_true}
 use Rattle.std.proofs.ByRecursion.{All-get_or}
 use Rattle.std.specs.Option.{option_map}
-use Rattle.std.specs.List.{AllByRecursion as All}
+use Rattle.std.specs.List.{AllByRecursion}
 use Rattle.problem.specs.declared.window.Window.{Window}
 use Rattle.problem.specs.declared.dimensions.Dimensions.{Dimensions}
 use Rattle.problem.specs.Limits.{Follows, InOrder, WindowFits}
@@ -58,7 +58,7 @@ then_follows u v w some a b =
     }
 
 -- so each follows every one before it
-pub in_order : (d : Dimensions) (ws : List Window) → All (WindowFits d) ws → lowest (misplaced ws) (length ws) ≡ None → InOrder ws
+pub in_order : (d : Dimensions) (ws : List Window) → AllByRecursion (WindowFits d) ws → lowest (misplaced ws) (length ws) ≡ None → InOrder ws
 in_order d ws fit none i j v lt below =
     let far : i + suc (j - i - 1) ≡ j = omega arith in
     subst (λ (k : ℕ). Follows (get_or ws i v) (get_or ws k v)) far (steps (j - i - 1) (omega arith))

@@ -5,7 +5,7 @@ use Rattle.std.proofs.lemmas.List.FromFn.{length-map-range_with_len, get_or-map-
 use Rattle.std.proofs.ByRecursion.{All-get_or, All-weaker}
 use Rattle.std.proofs.lemmas.List.{drop-drop, drop_at, same_lists}
 use Rattle.std.proofs.lemmas.Bool.{le-leb}
-use Rattle.std.specs.List.{range_with_len, flat_map, AllByRecursion as All}
+use Rattle.std.specs.List.{range_with_len, flat_map, AllByRecursion}
 use Rattle.std.specs.Option.{option_map, option_or}
 use Rattle.words.proofs.Chunks.{piece_of, length_pieces}
 use Rattle.words.proofs.Encoded.{length_encoded, words_of_bytes}
@@ -42,24 +42,24 @@ counts_of m = record {
 }
 
 -- each record has the bytes that its section has for one
-tasks_long : (m : Model) → Within m → All (λ t. length (encoded (task_words m.dimensions.processors t)) ≡ 16 + 4 * m.dimensions.processors) m.tasks
+tasks_long : (m : Model) → Within m → AllByRecursion (λ t. length (encoded (task_words m.dimensions.processors t)) ≡ 16 + 4 * m.dimensions.processors) m.tasks
 tasks_long m within =
     All-weaker (TaskFits m.dimensions) (λ t. length (encoded (task_words m.dimensions.processors t)) ≡ 16 + 4 * m.dimensions.processors)
     (λ t fits. length_encoded (task_words m.dimensions.processors t) ∙ omega (arith, task_words_lem m.dimensions t within.dimensions fits.durations))
     m.tasks within.tasks
 
 -- what holds of every element
-always : {X : Type 0} (P : X → Type 0) → ((x : X) → P x) → (xs : List X) → All P xs
+always : {X : Type 0} (P : X → Type 0) → ((x : X) → P x) → (xs : List X) → AllByRecursion P xs
 always P each [] = tt
 always P each (x ∷ xs) = (each x, always P each xs)
 
-windows_long : (ws : List Window) → All (λ w. length (encoded (window_words w)) ≡ 16) ws
+windows_long : (ws : List Window) → AllByRecursion (λ w. length (encoded (window_words w)) ≡ 16) ws
 windows_long = always _ (λ w. length_encoded (window_words w))
 
-dependencies_long : (xs : List Dependency) → All (λ x. length (encoded (dependency_words x)) ≡ 16) xs
+dependencies_long : (xs : List Dependency) → AllByRecursion (λ x. length (encoded (dependency_words x)) ≡ 16) xs
 dependencies_long = always _ (λ x. length_encoded (dependency_words x))
 
-exclusions_long : (xs : List Exclusion) → All (λ x. length (encoded (exclusion_words x)) ≡ 12) xs
+exclusions_long : (xs : List Exclusion) → AllByRecursion (λ x. length (encoded (exclusion_words x)) ≡ 12) xs
 exclusions_long = always _ (λ x. length_encoded (exclusion_words x))
 
 -- how long the sections are
@@ -135,7 +135,7 @@ encode_formed m within =
     }
 
 -- a record of a section, between what precedes the section and what follows it
-in_section : {X : Type 0} (s n : ℕ) (w : X → List ℕ) (xs : List X) (file pre rest : List ℕ) → file ≡ pre ++ (flat_map w xs ++ rest) → length pre ≡ n → All (λ x. length (w x) ≡ s) xs → (j : ℕ) (d : X) → j < length xs → take s (drop (n + s * j) file) ≡ w (get_or xs j d)
+in_section : {X : Type 0} (s n : ℕ) (w : X → List ℕ) (xs : List X) (file pre rest : List ℕ) → file ≡ pre ++ (flat_map w xs ++ rest) → length pre ≡ n → AllByRecursion (λ x. length (w x) ≡ s) xs → (j : ℕ) (d : X) → j < length xs → take s (drop (n + s * j) file) ≡ w (get_or xs j d)
 in_section s n w xs file pre rest parts long each j d lt =
     ap (λ f. take s (drop (n + s * j) f)) parts
     ∙ ap (take s) (sym (drop-drop (s * j) n (pre ++ (flat_map w xs ++ rest))) ∙ ap (drop (s * j)) (drop_at pre (flat_map w xs ++ rest) n long))
@@ -209,7 +209,7 @@ task_at_lem m within i d lt =
     (same, ((decides_mark bytes long).0 (le-leb (word_at bytes 4) 1 marked), subst (TaskFits m.dimensions) (sym same) fits))
 
 -- bytes that were written of an element in its range are read as that element
-read_back : {X : Type 0} (P : X → Type 0) (of : List ℕ → X) (words : X → List ℕ) (xs : List X) (bytes : List ℕ) → ((x : X) → P x → of (encoded (words x)) ≡ x) → All P xs → (j : ℕ) (d : X) → j < length xs → bytes ≡ encoded (words (get_or xs j d)) → (of bytes ≡ get_or xs j d) × P (of bytes)
+read_back : {X : Type 0} (P : X → Type 0) (of : List ℕ → X) (words : X → List ℕ) (xs : List X) (bytes : List ℕ) → ((x : X) → P x → of (encoded (words x)) ≡ x) → AllByRecursion P xs → (j : ℕ) (d : X) → j < length xs → bytes ≡ encoded (words (get_or xs j d)) → (of bytes ≡ get_or xs j d) × P (of bytes)
 read_back P of words xs bytes back all j d lt e =
     let fits = All-get_or P xs j d lt all in
     let same : of bytes ≡ get_or xs j d = ap of e ∙ back (get_or xs j d) fits in

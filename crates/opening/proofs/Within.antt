@@ -2,7 +2,7 @@
 use Rattle.std.proofs.Common.{◌≡◌, ℕ, zero, suc, ◌+◌, ◌<◌, ◌≤◌, false, not, List, map, length, None, sym, ap, ◌∙◌, arith}
 use Rattle.std.proofs.lemmas.List.FromFn.{length-map-range_with_len}
 use Rattle.std.proofs.lemmas.Bool.{not-false}
-use Rattle.std.specs.List.{range_with_len, AllByRecursion as All}
+use Rattle.std.specs.List.{range_with_len, AllByRecursion}
 use Rattle.problem.specs.Limits.{Within, TaskFits, WindowFits, DependencyFits, ExclusionFits}
 use Rattle.problem_file.proofs.Headers.{Formed}
 use Rattle.problem_file.proofs.Places.{Inside, inside_total, record_there}
@@ -19,7 +19,7 @@ use Rattle.opening.proofs.Tests.{decides_shown}
 use Rattle.opening.proofs.Walks.{sized}
 
 -- what holds at each number from `a` on holds of the list
-all_counted : {X : Type 0} (P : X → Type 0) (f : ℕ → X) (a n : ℕ) → ((i : ℕ) → a ≤ i → i < a + n → P (f i)) → All P (map f (range_with_len a n))
+all_counted : {X : Type 0} (P : X → Type 0) (f : ℕ → X) (a n : ℕ) → ((i : ℕ) → a ≤ i → i < a + n → P (f i)) → AllByRecursion P (map f (range_with_len a n))
 all_counted P f a zero each = tt
 all_counted P f a (suc n) each =
     (each a (omega arith) (omega arith), all_counted P f (a + 1) n (λ i low high. each i (omega arith) (omega arith)))

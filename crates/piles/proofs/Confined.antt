@@ -2,7 +2,7 @@
 use Rattle.std.proofs.Common.{◌≡◌, ℕ, ◌+◌, ◌<◌, Bool, true, false, cond, ltb, List, length, get_or, take, Some, None, Decides, arith}
 use Rattle.std.proofs.ByRecursion.{All-get_or, All-more}
 use Rattle.std.proofs.lemmas.Bool.{false≢true, cond-true, lt-ltb}
-use Rattle.std.specs.List.{AllByRecursion as All}
+use Rattle.std.specs.List.{AllByRecursion}
 use Rattle.problem.specs.declared.task.Task.{Task}
 use Rattle.problem.specs.Limits.{Model, Within}
 use Rattle.problem.specs.Lookup.{task_at, task_in}
@@ -26,7 +26,7 @@ found_is p t task =
     [ true ↦ λ e. cc | false ↦ λ e. cc ]
 
 -- a search for one of the problem's tasks finds it
-pub never_missing : (p : Model) (tasks : List ℕ) (i : ℕ) → i < length tasks → Within p → All (λ t. t < p.dimensions.tasks) tasks → None ≡ task_in p (get_or tasks i 0) → ⊥
+pub never_missing : (p : Model) (tasks : List ℕ) (i : ℕ) → i < length tasks → Within p → AllByRecursion (λ t. t < p.dimensions.tasks) tasks → None ≡ task_in p (get_or tasks i 0) → ⊥
 never_missing p tasks i h w known none =
     let t = get_or tasks i 0 in
     let low : t < length p.tasks = rw w.task_count (All-get_or (λ t. t < p.dimensions.tasks) tasks i 0 h known) in

@@ -1,12 +1,12 @@
 use Rattle.std.specs.Prelude.{◌≡◌, ℕ, List}
-use Rattle.std.specs.List.{AllByRecursion as All}
+use Rattle.std.specs.List.{AllByRecursion}
 use Rattle.problem.specs.Limits.{Model}
 use Rattle.problem.specs.Lookup.{task_at}
 use Rattle.rules.specs.Meaning.{Meaning}
 
 -- all these tasks are in the partition
 abbrev pub AllIn : ℕ → Model → List ℕ → Type 0
-AllIn partition p tasks = All (λ t. (task_at p t).partition ≡ partition) tasks
+AllIn partition p tasks = AllByRecursion (λ t. (task_at p t).partition ≡ partition) tasks
 
 -- every place is kept unless all its named tasks are in the partition; all else is the lower rule's
 abbrev pub confined : ℕ → Meaning → Meaning

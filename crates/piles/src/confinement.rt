@@ -1,7 +1,7 @@
 ghost use Rattle.std.specs.Prelude.{◌<◌, Decides};
 ghost use Rattle.piles.specs.Confinement.{AllIn, confined};
 ghost use Rattle.problem.specs.Model.{model};
-ghost use Rattle.std.specs.List.{AllByRecursion as All};
+ghost use Rattle.std.specs.List.{AllByRecursion};
 ghost use Rattle.piles.specs.Kept.{confined_reach, confined_absence};
 
 use problem::problem::Problem;
@@ -19,7 +19,7 @@ pub struct Confinement<R> {
 
 /// All these tasks are in the partition.
 fn all_in(partition: u32, problem: &Problem, tasks: &[u32; 2]) -> bool
-    requires { All (λ t. t < problem.now.dimensions.tasks) tasks.now }
+    requires { AllByRecursion (λ t. t < problem.now.dimensions.tasks) tasks.now }
     ensures { Decides result (AllIn partition (model problem.now) tasks.now) }
 {
     for number in tasks {

@@ -1,5 +1,5 @@
 use Rattle.std.specs.Prelude.{◌≡◌, ℕ, ◌*◌, ◌<◌, ◌≤◌, List, length, Some, None, Option, slice_index, slice_index_or}
-use Rattle.std.specs.List.{AllByRecursion as All}
+use Rattle.std.specs.List.{AllByRecursion}
 use Rattle.problem.specs.declared.dependency.Dependency.{Dependency}
 use Rattle.problem.specs.declared.dimensions.Dimensions.{Dimensions}
 use Rattle.problem.specs.declared.exclusion.Exclusion.{Exclusion}
@@ -78,8 +78,8 @@ pub record Within (m : Model) : Type 0 where
   pub window_count : length m.windows ≤ 64
   pub dependency_count : length m.dependencies ≤ 256
   pub exclusion_count : length m.exclusions ≤ 128
-  pub tasks : All (TaskFits m.dimensions) m.tasks
-  pub windows : All (WindowFits m.dimensions) m.windows
-  pub dependencies : All (DependencyFits m.dimensions) m.dependencies
-  pub exclusions : All (ExclusionFits m.dimensions) m.exclusions
+  pub tasks : AllByRecursion (TaskFits m.dimensions) m.tasks
+  pub windows : AllByRecursion (WindowFits m.dimensions) m.windows
+  pub dependencies : AllByRecursion (DependencyFits m.dimensions) m.dependencies
+  pub exclusions : AllByRecursion (ExclusionFits m.dimensions) m.exclusions
   pub order : InOrder m.windows

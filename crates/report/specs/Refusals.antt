@@ -3,16 +3,14 @@ use Rattle.problem_file.specs.declared.fault.FileFault.TheVariants.{Kind, Count,
 use Rattle.opening.specs.declared.fault.Fault.{Fault}
 use Rattle.opening.specs.declared.fault.Fault.TheVariants.{File as OfFile, Problem as OfProblem}
 use Rattle.opening.specs.declared.fault.ProblemFault.TheVariants.{Field, Order}
-use Rattle.piles.specs.declared.fault.WaiverFull.{WaiverFull}
 use Rattle.report.specs.declared.refusal.Layer.{Layer}
-use Rattle.report.specs.declared.refusal.Layer.TheVariants.{File, Problem, Draft}
+use Rattle.report.specs.declared.refusal.Layer.TheVariants.{File, Problem}
 use Rattle.report.specs.declared.refusal.Refusal.{Refusal}
 
 -- the letter of a layer
 abbrev pub letter : Layer → List ℕ
 letter File = codes "F"
 letter Problem = codes "P"
-letter Draft = codes "W"
 
 -- a fault of a file's form has no position
 abbrev pub of_file : ℕ → Refusal
@@ -29,7 +27,3 @@ refusal_of (OfFile Count) = of_file 2
 refusal_of (OfFile Layout) = of_file 3
 refusal_of (OfProblem (Field i)) = of_record 4 i
 refusal_of (OfProblem (Order i)) = of_record 5 i
-
--- a waiver that is full, with the number of the place that it was given
-abbrev pub of_waiver : WaiverFull → Refusal
-of_waiver fault = record { number = 13; layer = Draft; position = Some fault.place; label = None }

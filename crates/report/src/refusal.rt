@@ -1,8 +1,7 @@
-ghost use Rattle.report.specs.Refusals.{letter, of_file, of_record, of_waiver, refusal_of};
+ghost use Rattle.report.specs.Refusals.{letter, of_file, of_record, refusal_of};
 ghost use Rattle.std.specs.Prelude.{◌≡◌, Some};
 
 use opening::fault::{Fault, ProblemFault};
-use piles::fault::WaiverFull;
 use problem_file::fault::FileFault;
 use std::fmt;
 
@@ -11,8 +10,6 @@ use std::fmt;
 pub enum Layer {
     File,
     Problem,
-    /// A draft, or a waiver.
-    Draft,
 }
 
 impl fmt::Display for Layer {
@@ -22,7 +19,6 @@ impl fmt::Display for Layer {
         match self {
             Layer::File => write!(f, "F"),
             Layer::Problem => write!(f, "P"),
-            Layer::Draft => write!(f, "W"),
         }
     }
 }
@@ -79,19 +75,6 @@ impl From<Fault> for Refusal {
             Fault::File(FileFault::Layout) => Refusal::of_file(3),
             Fault::Problem(ProblemFault::Field { record }) => Refusal::of_record(4, record),
             Fault::Problem(ProblemFault::Order { record }) => Refusal::of_record(5, record),
-        }
-    }
-}
-
-impl From<WaiverFull> for Refusal {
-    ghost from_gives = { λ fault r. r ≡ of_waiver fault };
-
-    fn from(fault: WaiverFull) -> Refusal {
-        Refusal {
-            number: 13,
-            layer: Layer::Draft,
-            position: Some(fault.place as usize),
-            label: None,
         }
     }
 }

@@ -2,7 +2,7 @@
 use Rattle.std.proofs.Common.{◌≡◌, ℕ, ◌⊎◌, List, [], ◌∷◌, Some, None, Option, sym, refl, ◌∙◌, subst, inl, inr, arith}
 use Rattle.std.proofs.ByRecursion.{all-has}
 use Rattle.std.proofs.lemmas.List.{length-set}
-use Rattle.std.specs.List.{ContainsAt as Has, AllByRecursion as All}
+use Rattle.std.specs.List.{ContainsAt as Has, AllByRecursion}
 use Rattle.problem.specs.Limits.{Model}
 use Rattle.table.specs.Put.{without}
 use Rattle.table.specs.Rows.{Rows, row_at, Agree}
@@ -15,7 +15,7 @@ use Rattle.rules.specs.Search.{NamesEither, FoundNaming, Found}
 use Rattle.rules.proofs.Named.{has_or_not, has_first, has_later, named_below}
 
 -- some task of the list has no row, or the tables agree on all of them
-missing_or_same : (part whole : Rows) → PartOf part whole → (ts : List ℕ) → ((t : ℕ) × Has ts t × (row_at part t ≡ None)) ⊎ All (Agree whole part) ts
+missing_or_same : (part whole : Rows) → PartOf part whole → (ts : List ℕ) → ((t : ℕ) × Has ts t × (row_at part t ≡ None)) ⊎ AllByRecursion (Agree whole part) ts
 missing_or_same part whole of [] = inr tt
 missing_or_same part whole of (t ∷ ts) =
     elim (of.rows t) [

@@ -2,7 +2,7 @@
 ghost use Rattle.std.specs.Prelude.{◌≡◌, ◌<◌, ◌≤◌};
 ghost use Rattle.problem.specs.Model.{model};
 ghost use Rattle.rules.specs.EachTask.{labelled, named};
-ghost use Rattle.std.specs.List.{AllByRecursion as All};
+ghost use Rattle.std.specs.List.{AllByRecursion};
 
 use crate::label::Label;
 use problem::problem::Problem;
@@ -29,7 +29,7 @@ pub fn label(rule: u32, problem: &Problem, place: u32) -> Label
 /// The task, twice.
 pub fn tasks(problem: &Problem, place: u32) -> [u32; 2]
     ensures value { result ≡ named (model problem.now) place }
-    ensures known { All (λ t. t < problem.now.dimensions.tasks) result }
+    ensures known { AllByRecursion (λ t. t < problem.now.dimensions.tasks) result }
 {
     if place < problem.dimensions().tasks {
         [place, place]

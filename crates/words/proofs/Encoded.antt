@@ -4,7 +4,7 @@ use native.Mathlib.Nat.{div-div-eq-div-mul}
 use Rattle.std.proofs.lemmas.Nat.{div-add-mod', div_below, div-mul-add}
 use Rattle.std.proofs.lemmas.List.{get_or-take, get_or-drop, get_or_past, length-take-le}
 use Rattle.std.proofs.lemmas.Bool.{cases_lt}
-use Rattle.std.specs.List.{range_with_len, AllByRecursion as All}
+use Rattle.std.specs.List.{range_with_len, AllByRecursion}
 use Rattle.words.specs.Words.{word_at, word_bytes, encoded}
 use Rattle.words.proofs.Chunks.{pieces_are, piece_of, length_pieces, joined_map}
 
@@ -85,7 +85,7 @@ bytes_of_words n xs long small =
     ∙ ap word_bytes (word_of_part 4 (4 * i) 0 xs (omega arith) ∙ ap (word_at xs) place) in
     pieces_are 4 n 0 xs (λ k. word_bytes (word_at xs (4 * k))) long piece ∙ sym (joined_map word_bytes (λ k. word_at xs (4 * k)) (range_with_len 0 n))
 
-four_bytes : (ws : List ℕ) → All (λ w. length (word_bytes w) ≡ 4) ws
+four_bytes : (ws : List ℕ) → AllByRecursion (λ w. length (word_bytes w) ≡ 4) ws
 unfolding word_bytes
 four_bytes [] = tt
 four_bytes (w ∷ ws) = (refl, four_bytes ws)

@@ -1,7 +1,7 @@
 ghost use Rattle.std.specs.Prelude.{ℕ, ◌≤◌, Decides};
 ghost use Rattle.dependency_rule.specs.Dependencies.{InOrder, dependency_rule};
 ghost use Rattle.table.specs.Row.{row_model};
-ghost use Rattle.dependency_rule.specs.OfDependencies.{dependencies_reach, dependencies_absence};
+ghost use Rattle.dependency_rule.specs.Laws.{dependencies_reach, dependencies_absence};
 
 use problem::dependency::Dependency;
 use problem::problem::Problem;

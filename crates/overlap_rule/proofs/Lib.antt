@@ -1,2 +1,4 @@
 mod Spans
 mod Distances
+mod Apart
+mod OfOverlaps

@@ -1,5 +1,4 @@
 pub mod Instances
 pub mod Overlaps
 pub mod Search
-pub mod OfOverlaps
-pub mod Apart
+pub mod Laws

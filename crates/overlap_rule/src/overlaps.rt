@@ -1,5 +1,5 @@
 ghost use Rattle.overlap_rule.specs.Overlaps.{overlap_rule};
-ghost use Rattle.overlap_rule.specs.OfOverlaps.{overlaps_reach, overlaps_absence};
+ghost use Rattle.overlap_rule.specs.Laws.{overlaps_reach, overlaps_absence};
 
 use crate::search::overlap;
 use problem::problem::Problem;

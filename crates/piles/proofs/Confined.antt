@@ -12,7 +12,7 @@ use Rattle.rules.specs.Judged.{Judged}
 use Rattle.rules.specs.Meaning.{Meaning, tasks_of}
 use Rattle.rules.proofs.Named.{tasks_below}
 use Rattle.piles.specs.Confinement.{AllIn, confined}
-use Rattle.piles.specs.Alike.{judged_alike}
+use Rattle.piles.proofs.Alike.{judged_alike}
 
 -- a place whose tasks are all in the partition is judged as the lower rule judges it
 pub judged_inside : (partition : ℕ) (m : Meaning) (p : Model) (rows : Rows) (k : ℕ) → AllIn partition p (tasks_of m p k) → (r : Judgement) → Judged m p rows k r → Judged (confined partition m) p rows k r

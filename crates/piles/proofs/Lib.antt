@@ -1,2 +1,4 @@
+pub mod Alike
+pub mod Paired
 pub mod Waived
 pub mod Confined

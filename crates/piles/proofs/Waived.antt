@@ -9,7 +9,7 @@ use Rattle.rules.specs.Judged.{Judged}
 use Rattle.rules.specs.Meaning.{Meaning}
 use Rattle.piles.specs.Waive.{Added}
 use Rattle.piles.specs.Waiver.{waived}
-use Rattle.piles.specs.Alike.{judged_alike}
+use Rattle.piles.proofs.Alike.{judged_alike}
 
 -- a number written behind the listed ones is added to them
 pub put_behind : (places : List ℕ) (count place : ℕ) → length places ≡ 16 → count < 16 → (Has (take count places) place → ⊥) →

@@ -2,7 +2,7 @@ ghost use Rattle.std.specs.Prelude.{◌<◌, Decides};
 ghost use Rattle.piles.specs.Confinement.{AllIn, confined};
 ghost use Rattle.problem.specs.Model.{model};
 ghost use Rattle.std.specs.List.{AllByRecursion};
-ghost use Rattle.piles.specs.Kept.{confined_reach, confined_absence};
+ghost use Rattle.piles.specs.Laws.{confined_reach, confined_absence};
 
 use problem::problem::Problem;
 use rules::judgement::Judgement;

@@ -1,5 +1,5 @@
 ghost use Rattle.piles.specs.Pair.{SideOf, paired};
-ghost use Rattle.piles.specs.Paired.{paired_reach, paired_absence};
+ghost use Rattle.piles.specs.Laws.{paired_reach, paired_absence};
 
 use problem::problem::Problem;
 use rules::judgement::Judgement;

@@ -1,5 +1,5 @@
 ghost use Rattle.piles.specs.Waiver.{listed, waived};
-ghost use Rattle.piles.specs.Kept.{waived_reach, waived_absence};
+ghost use Rattle.piles.specs.Laws.{waived_reach, waived_absence};
 
 use crate::waiver::Waiver;
 use problem::problem::Problem;

@@ -6,7 +6,7 @@ use Rattle.problem.proofs.Known.{knows}
 use Rattle.table.specs.Row.{row_model}
 use Rattle.table.proofs.Spread.{ends_before}
 use Rattle.overlap_rule.specs.Search.{Clear}
-use Rattle.overlap_rule.specs.Apart.{below_last, below_more_ℤ, clear_apart, earlier_clear, next_distance, test_gt, test_le}
+use Rattle.overlap_rule.proofs.Apart.{below_last, below_more_ℤ, clear_apart, earlier_clear, next_distance, test_gt, test_le}
 use Rattle.overlap_rule.proofs.search.between.Goals as goal
 use Rattle.overlap_rule.proofs.search.between.Goals.{else-share_tick-via-then-share_tick+else-not-never_both, else-share_tick-via-else-share_tick}
 

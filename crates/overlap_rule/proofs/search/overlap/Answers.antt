@@ -1,7 +1,7 @@
 use Rattle.std.proofs.Common.{sym}
 use Rattle.table.specs.Row.{row_model}
 use Rattle.table.specs.Table.{problem_of, rows_of}
-use Rattle.overlap_rule.specs.OfOverlaps.{found_overlap}
+use Rattle.overlap_rule.proofs.OfOverlaps.{found_overlap}
 use Rattle.overlap_rule.proofs.search.overlap.Goals as goal
 
 pub between-requires : goal.between-requires

@@ -8,7 +8,7 @@ use Rattle.problem.proofs.Known.{knows}
 use Rattle.table.specs.Row.{row_model}
 use Rattle.table.specs.Table.{problem_of, rows_of}
 use Rattle.dependency_rule.proofs.Lookups.{some_below}
-use Rattle.dependency_rule.specs.OfDependencies.{dependency_broken}
+use Rattle.dependency_rule.proofs.OfDependencies.{dependency_broken}
 use Rattle.dependency_rule.proofs.dependencies.DependenciesRule.judge.Goals as goal
 
 pub in_order-requires : goal.in_order-requires

@@ -1,6 +1,6 @@
 use Rattle.std.proofs.Common.{arith}
 use Rattle.table.specs.Table.{problem_of, rows_of}
-use Rattle.piles.specs.Paired.{judged_first, judged_second}
+use Rattle.piles.proofs.Paired.{judged_first, judged_second}
 use Rattle.piles.proofs.pair.PairRule.judge.Goals as goal
 
 pub returns-in-First : goal.returns-in-First

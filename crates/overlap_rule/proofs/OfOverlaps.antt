@@ -1,28 +1,13 @@
--- The laws of the rule on overlaps, and how its places are judged.
-use Rattle.std.specs.Prelude.{◌≡◌, ℕ, ◌/◌, ◌%◌, [], ◌∷◌, Some, None, Option}
-use Rattle.std.proofs.Common.{inl, inr, sym, subst, ◌∙◌}
+-- How the places of the rule on overlaps are judged.
+use Rattle.std.proofs.Common.{◌≡◌, ℕ, Some, None, Option, sym, subst}
 use Rattle.problem.specs.Limits.{Model}
 use Rattle.table.specs.Rows.{RowModel, Rows, row_at}
 use Rattle.table.specs.Shape.{LawfulShape}
-use Rattle.rules.specs.Meaning.{Reach, Absence}
-use Rattle.rules.proofs.Named.{has_first, has_later, has_two}
-use Rattle.rules.proofs.OfEachTask.{none_some, one_some}
+use Rattle.rules.proofs.OfEachTask.{one_some}
 use Rattle.overlap_rule.specs.declared.overlap.Overlap.{Overlap}
-use Rattle.overlap_rule.specs.Overlaps.{ApartIn, overlap_rule}
+use Rattle.overlap_rule.specs.Overlaps.{ApartIn}
 use Rattle.overlap_rule.specs.Search.{FoundBetween, FoundOverlap}
-use Rattle.overlap_rule.specs.Apart.{overlap_broken}
-
-pub overlaps_reach : Reach overlap_rule
-overlaps_reach p a b k n sa sb h same kept below x y ex ey =
-    let i = k / p.dimensions.tasks in let j = k % p.dimensions.tasks in
-    kept below x y (same i (has_first i (j ∷ [])) ∙ ex) (same j (has_later i (j ∷ []) j (has_first j [])) ∙ ey)
-
-pub overlaps_absence : Absence overlap_rule
-overlaps_absence p rows k n t s h has none below x y ex ey =
-    elim (has_two (k / p.dimensions.tasks) (k % p.dimensions.tasks) t has) [
-      | inl e ↦ absurd (none_some (row_at rows t) x none (subst (λ (z : ℕ). row_at rows z ≡ Some x) e ex))
-      | inr e ↦ absurd (none_some (row_at rows t) y none (subst (λ (z : ℕ). row_at rows z ≡ Some y) e ey))
-    ]
+use Rattle.overlap_rule.proofs.Apart.{overlap_broken}
 
 -- what is found between two tasks' rows on one processor is what is found of the tasks
 pub found_overlap : (p : Model) (i j : ℕ) (rows : Rows) (a b : RowModel) → LawfulShape p.dimensions a → LawfulShape p.dimensions b →

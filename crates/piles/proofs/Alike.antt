@@ -1,5 +1,5 @@
 -- Two places that are kept in the same frames.
-use Rattle.std.specs.Prelude.{ℕ}
+use Rattle.std.proofs.Common.{ℕ}
 use Rattle.problem.specs.Limits.{Model}
 use Rattle.table.specs.Rows.{Rows}
 use Rattle.rules.specs.declared.judgement.Judgement.{Judgement}

@@ -1,5 +1,5 @@
 ghost use Rattle.problem.specs.Limits.{DependencyFits};
-ghost use Rattle.std.specs.Prelude.{Decides};
+ghost use Rattle.std.specs.Prelude.{◌↔◌, IsTrue};
 
 use crate::dimensions::Dimensions;
 
@@ -15,7 +15,7 @@ pub struct Dependency {
 impl Dependency {
     /// Every field of the dependency is in its range.
     pub fn fits(&self, dimensions: &Dimensions) -> bool
-        ensures { Decides result (DependencyFits dimensions.now self.now) }
+        ensures { IsTrue result ↔ DependencyFits dimensions.now self.now }
     {
         self.source < dimensions.tasks
             && self.destination < dimensions.tasks

@@ -1,5 +1,5 @@
 ghost use Rattle.problem.specs.Limits.{DimensionsFit};
-ghost use Rattle.std.specs.Prelude.{Decides};
+ghost use Rattle.std.specs.Prelude.{◌↔◌, IsTrue};
 
 /// What the records of a problem are measured by: the ticks of the major time frame, and how many processors, partitions and tasks there are.
 #[derive(Clone, Copy)]
@@ -13,15 +13,11 @@ pub struct Dimensions {
 impl Dimensions {
     /// Each of the four is within its limits.
     pub fn fit(&self) -> bool
-        ensures { Decides result (DimensionsFit self.now) }
+        ensures { IsTrue result ↔ DimensionsFit self.now }
     {
-        1 <= self.frame
-            && self.frame <= 1_000_000
-            && 1 <= self.processors
-            && self.processors <= 4
-            && 1 <= self.partitions
-            && self.partitions <= 8
-            && 1 <= self.tasks
-            && self.tasks <= 64
+        (1..=1_000_000).contains(&self.frame)
+            && (1..=4).contains(&self.processors)
+            && (1..=8).contains(&self.partitions)
+            && (1..=64).contains(&self.tasks)
     }
 }

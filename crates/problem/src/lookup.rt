@@ -27,9 +27,6 @@ impl Task {
     pub fn duration_on(&self, processor: u32) -> u32
         ensures { result ≡ duration_on self.now processor }
     {
-        match self.durations.get(processor as usize) {
-            Some(duration) => *duration,
-            None => 0,
-        }
+        self.durations.get(processor as usize).copied().unwrap_or(0)
     }
 }

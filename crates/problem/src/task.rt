@@ -1,5 +1,5 @@
 ghost use Rattle.problem.specs.Limits.{DeadlineFits, DurationsFit, TaskFits};
-ghost use Rattle.std.specs.Prelude.{Decides};
+ghost use Rattle.std.specs.Prelude.{◌↔◌, IsTrue};
 
 use crate::dimensions::Dimensions;
 
@@ -15,38 +15,32 @@ pub struct Task {
 
 /// The deadline lies within four frames, or there is none.
 fn deadline_fits(deadline: Option<u32>, frame: u32) -> bool
-    ensures { Decides result (DeadlineFits frame deadline) }
+    ensures { IsTrue result ↔ DeadlineFits frame deadline }
 {
-    match deadline {
-        None => true,
-        Some(date) => 1 <= date && date as u64 <= 4 * frame as u64,
-    }
+    deadline.is_none_or(|date| 1 <= date && u64::from(date) <= 4 * u64::from(frame))
 }
 
 /// No duration exceeds the frame, and none is given for a processor that is not there.
 fn durations_fit(durations: &[u32; 4], dimensions: &Dimensions) -> bool
-    ensures { Decides result (DurationsFit dimensions.now durations.now) }
+    ensures { IsTrue result ↔ DurationsFit dimensions.now durations.now }
 {
-    for (processor, duration) in durations.iter().enumerate() {
+    durations.iter().enumerate().all(|(processor, duration)| {
         let longest = if processor < dimensions.processors as usize {
             dimensions.frame
         } else {
             0
         };
-        if *duration > longest {
-            return false;
-        }
-    }
-    true
+        *duration <= longest
+    })
 }
 
 impl Task {
     /// Every field of the task is in its range.
     pub fn fits(&self, dimensions: &Dimensions) -> bool
-        ensures { Decides result (TaskFits dimensions.now self.now) }
+        ensures { IsTrue result ↔ TaskFits dimensions.now self.now }
     {
         self.partition < dimensions.partitions
-            && self.release as u64 <= 3 * dimensions.frame as u64
+            && u64::from(self.release) <= 3 * u64::from(dimensions.frame)
             && deadline_fits(self.deadline, dimensions.frame)
             && durations_fit(&self.durations, dimensions)
     }

@@ -1,5 +1,5 @@
 ghost use Rattle.problem.specs.Limits.{Follows, WindowFits};
-ghost use Rattle.std.specs.Prelude.{Decides};
+ghost use Rattle.std.specs.Prelude.{◌↔◌, IsTrue};
 
 use crate::dimensions::Dimensions;
 
@@ -15,7 +15,7 @@ pub struct Window {
 impl Window {
     /// Every field of the window is in its range.
     pub fn fits(&self, dimensions: &Dimensions) -> bool
-        ensures { Decides result (WindowFits dimensions.now self.now) }
+        ensures { IsTrue result ↔ WindowFits dimensions.now self.now }
     {
         self.processor < dimensions.processors
             && self.partition < dimensions.partitions
@@ -25,9 +25,8 @@ impl Window {
 
     /// The window may stand right after `before` in the list.
     pub fn follows(&self, before: &Window) -> bool
-        ensures { Decides result (Follows before.now self.now) }
+        ensures { IsTrue result ↔ Follows before.now self.now }
     {
-        before.processor < self.processor
-            || before.processor == self.processor && before.end <= self.begin
+        (before.processor, before.end) <= (self.processor, self.begin)
     }
 }

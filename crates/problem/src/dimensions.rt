@@ -1,5 +1,5 @@
 ghost use Rattle.problem.specs.Limits.{DimensionsFit};
-ghost use Rattle.std.specs.Prelude.{◌↔◌, IsTrue};
+ghost use Rattle.std.specs.Prelude.{◌≡◌, ◌↔◌, ◌<◌, ◌≤◌, IsTrue};
 
 /// What the records of a problem are measured by: the ticks of the major time frame, and how many processors, partitions and tasks there are.
 #[derive(Clone, Copy)]
@@ -19,5 +19,16 @@ impl Dimensions {
             && (1..=4).contains(&self.processors)
             && (1..=8).contains(&self.partitions)
             && (1..=64).contains(&self.tasks)
+    }
+    /// The longest duration that a task may have on a processor: a frame, and 0 past the last processor.
+    pub(crate) fn longest_duration(&self, processor: usize) -> u32
+        ensures given { processor < self.now.processors → result ≡ self.now.frame }
+        ensures unused { self.now.processors ≤ processor → result ≡ 0 }
+    {
+        if processor < self.processors as usize {
+            self.frame
+        } else {
+            0
+        }
     }
 }

@@ -24,14 +24,8 @@ fn deadline_fits(deadline: Option<u32>, frame: u32) -> bool
 fn durations_fit(durations: &[u32; 4], dimensions: &Dimensions) -> bool
     ensures { IsTrue result ↔ DurationsFit dimensions.now durations.now }
 {
-    durations.iter().enumerate().all(|(processor, duration)| {
-        let longest = if processor < dimensions.processors as usize {
-            dimensions.frame
-        } else {
-            0
-        };
-        *duration <= longest
-    })
+    let mut by_processor = durations.iter().enumerate();
+    by_processor.all(|(processor, duration)| *duration <= dimensions.longest_duration(processor))
 }
 
 impl Task {

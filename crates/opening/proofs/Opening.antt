@@ -1,4 +1,5 @@
 -- From the checks to what opening promises.
+use Rattle.std.specs.declared.alloc.AllocError.{AllocError}
 use Rattle.std.proofs.Common.{◌≡◌, ℕ, ◌+◌, List, length, is_ok, Some, None, Ok, Err, sym, ap, ◌∙◌, subst, arith}
 use Rattle.std.specs.Option.{option_map}
 use Rattle.words.proofs.Encoded.{Octets}
@@ -94,6 +95,6 @@ promised_refused file fault error e is =
     subst (Withheld file) (sym is) (record { outcome = e; encodings = λ m h. none_at_all file fault m e h })
 
 -- for want of memory
-pub promised_memory : (file : List ℕ) (c : Counts) (error : OpenError) → Octets file → header_of file ≡ Ok c → None ≡ records_fault c file → error ≡ Memory → Withheld file error
+pub promised_memory : (file : List ℕ) (c : Counts) {memory : AllocError} (error : OpenError) → Octets file → header_of file ≡ Ok c → None ≡ records_fault c file → error ≡ Memory memory → Withheld file error
 promised_memory file c error small e none is =
     subst (Withheld file) (sym is) (record { outcome = ap is_ok (granted file c e none); encodings = (stated c file, granted_encodes file c small e none) })

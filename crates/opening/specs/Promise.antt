@@ -12,7 +12,7 @@ use Rattle.opening.specs.declared.fault.OpenError.TheVariants.{Refused, Memory}
 abbrev pub Outcome : Result Model Fault → Result Problem OpenError → Type 0
 Outcome o (Ok p) = o ≡ Ok (model p)
 Outcome o (Err (Refused fault)) = o ≡ Err fault
-Outcome o (Err Memory) = is_ok o ≡ true
+Outcome o (Err (Memory error)) = is_ok o ≡ true
 
 -- the bytes are the file of a problem within its limits
 pub record Encodes (m : Model) (file : List ℕ) : Type 0 where
@@ -23,7 +23,7 @@ pub record Encodes (m : Model) (file : List ℕ) : Type 0 where
 abbrev pub OpensEncodings : List ℕ → Result Problem OpenError → Type 0
 OpensEncodings file (Ok p) = Encodes (model p) file × ((m : Model) → Encodes m file → m ≡ model p)
 OpensEncodings file (Err (Refused fault)) = (m : Model) → Encodes m file → ⊥
-OpensEncodings file (Err Memory) = (m : Model) × Encodes m file
+OpensEncodings file (Err (Memory error)) = (m : Model) × Encodes m file
 
 -- a problem that is given holds exactly what the reader shows
 abbrev pub HoldsRecords : List ℕ → Result Problem OpenError → Type 0

@@ -25,7 +25,7 @@ pub enum Fault {
 #[derive(Clone, Copy)]
 pub enum OpenError {
     Refused(Fault),
-    Memory,
+    Memory(AllocError),
 }
 
 impl From<FileFault> for OpenError {
@@ -45,9 +45,9 @@ impl From<ProblemFault> for OpenError {
 }
 
 impl From<AllocError> for OpenError {
-    ghost from_gives = { λ _ r. r ≡ Memory };
+    ghost from_gives = { λ error r. r ≡ Memory error };
 
-    fn from(_error: AllocError) -> OpenError {
-        OpenError::Memory
+    fn from(error: AllocError) -> OpenError {
+        OpenError::Memory(error)
     }
 }

@@ -1,4 +1,5 @@
-use Rattle.std.specs.Prelude.{length, Some, None, Ok, Err, Option, Result}
+use Rattle.std.specs.Prelude.{length, Ok, Err, Result}
+use Rattle.std.specs.declared.alloc.AllocError.{AllocError}
 use Rattle.problem.specs.declared.problem.Problem.{Problem}
 use Rattle.problem.specs.Limits.{Model}
 use Rattle.problem.specs.Model.{model}
@@ -14,8 +15,8 @@ abbrev pub verdict_of : Result Model Fault → Verdict
 verdict_of (Ok m) = Accepted 0 (length m.tasks)
 verdict_of (Err fault) = Refused (refusal_of fault)
 
--- the verdict on what opening answered: none exactly where it found no memory
-abbrev pub verdict_on : Result Problem OpenError → Option Verdict
-verdict_on (Ok p) = Some (verdict_of (Ok (model p)))
-verdict_on (Err (RefusedBy fault)) = Some (verdict_of (Err fault))
-verdict_on (Err Memory) = None
+-- the verdict on what opening answered: an error exactly where it found no memory, and then that error
+abbrev pub verdict_on : Result Problem OpenError → Result Verdict AllocError
+verdict_on (Ok p) = Ok (verdict_of (Ok (model p)))
+verdict_on (Err (RefusedBy fault)) = Ok (verdict_of (Err fault))
+verdict_on (Err (Memory error)) = Err error

@@ -1,6 +1,6 @@
 use Rattle.std.specs.Prelude.{ℕ, List, ◌++◌, Some, None, codes, decimal, Option}
 use Rattle.std.specs.Option.{option_map}
-use Rattle.report.specs.declared.refusal.Label.{Label}
+use Rattle.rules.specs.declared.label.Label.{Label}
 use Rattle.report.specs.declared.verdict.Verdict.{Verdict}
 use Rattle.report.specs.declared.verdict.Verdict.TheVariants.{Accepted, Refused}
 use Rattle.report.specs.Refusals.{letter}

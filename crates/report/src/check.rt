@@ -9,17 +9,17 @@ use opening::open;
 use problem::problem::Problem;
 use std::alloc::{AllocError, Global};
 
-/// The verdict on what opening answered, or nothing where that found no memory.
-pub fn verdict_on(opening: Result<Problem, OpenError>) -> Option<Verdict>
+/// The verdict on what opening answered, unless that found no memory.
+pub fn verdict_on(opening: Result<Problem, OpenError>) -> Result<Verdict, AllocError>
     ensures { result ≡ verdict_on opening }
 {
     match opening {
-        Ok(problem) => Some(Verdict::Accepted {
+        Ok(problem) => Ok(Verdict::Accepted {
             rows: 0,
             tasks: problem.dimensions().tasks as usize,
         }),
-        Err(OpenError::Refused(fault)) => Some(Verdict::Refused(fault.into())),
-        Err(OpenError::Memory) => None,
+        Err(OpenError::Refused(fault)) => Ok(Verdict::Refused(fault.into())),
+        Err(OpenError::Memory(error)) => Err(error),
     }
 }
 
@@ -27,7 +27,7 @@ pub fn verdict_on(opening: Result<Problem, OpenError>) -> Option<Verdict>
 pub fn verdict(heap: Global, problem: &[u8]) -> Result<Verdict, AllocError>
     ensures { MatchResult result (λ v. v ≡ verdict_of (opened problem.now)) (λ _. is_ok (opened problem.now) ≡ true) }
 {
-    verdict_on(open(heap, problem)).ok_or(AllocError)
+    verdict_on(open(heap, problem))
 }
 
 /// The line that framecheck prints for the bytes of a problem file.

@@ -3,6 +3,7 @@ ghost use Rattle.std.specs.Prelude.{◌≡◌, Some};
 
 use opening::fault::{Fault, ProblemFault};
 use problem_file::fault::FileFault;
+use rules::label::Label;
 use std::fmt;
 
 /// The layer that a fault belongs to.
@@ -21,13 +22,6 @@ impl fmt::Display for Layer {
             Layer::Problem => write!(f, "P"),
         }
     }
-}
-
-/// The number of a rule and of one of its places.
-#[derive(Clone, Copy)]
-pub struct Label {
-    pub rule: u32,
-    pub place: u32,
 }
 
 /// A fault as it is reported.

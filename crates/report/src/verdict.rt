@@ -1,7 +1,7 @@
-ghost use Rattle.report.specs.Line.{line_of, or_dash, place_of, rule_of};
+ghost use Rattle.report.specs.Line.{line_of, or_dash};
 ghost use Rattle.std.specs.Prelude.{◌≡◌, IfOk, Some, string_bytes};
 
-use crate::refusal::{Label, Refusal};
+use crate::refusal::Refusal;
 use std::alloc::{AllocError, Global};
 use std::fmt;
 
@@ -27,26 +27,6 @@ impl fmt::Display for OrDash {
     }
 }
 
-/// The rule's number, if there is a label.
-fn rule_of(label: Option<Label>) -> Option<usize>
-    ensures { result ≡ rule_of label }
-{
-    match label {
-        Some(label) => Some(label.rule as usize),
-        None => None,
-    }
-}
-
-/// The place's number, if there is a label.
-fn place_of(label: Option<Label>) -> Option<usize>
-    ensures { result ≡ place_of label }
-{
-    match label {
-        Some(label) => Some(label.place as usize),
-        None => None,
-    }
-}
-
 impl fmt::Display for Verdict {
     ghost output = { λ verdict. Some (line_of verdict) };
 
@@ -57,8 +37,8 @@ impl fmt::Display for Verdict {
                 let number = refusal.number;
                 let layer = refusal.layer;
                 let position = OrDash(refusal.position);
-                let rule = OrDash(rule_of(refusal.label));
-                let place = OrDash(place_of(refusal.label));
+                let rule = OrDash(refusal.label.map(|label| label.rule as usize));
+                let place = OrDash(refusal.label.map(|label| label.place as usize));
                 write!(f, "refused {number} {layer} {position} {rule} {place}")
             }
         }

@@ -10,70 +10,30 @@ use std::alloc::{AllocError, Global};
 /// The words of the good file.
 fn good(heap: Global) -> Result<Vec<u32>, AllocError> {
     let mut words = Vec::from_slice(heap, &cases::HEADER)?;
-    for task in cases::TASKS.iter() {
+    for task in &cases::TASKS {
         words.extend_from_slice(task)?;
     }
-    for window in cases::WINDOWS.iter() {
+    for window in &cases::WINDOWS {
         words.extend_from_slice(window)?;
     }
-    for dependency in cases::DEPENDENCIES.iter() {
+    for dependency in &cases::DEPENDENCIES {
         words.extend_from_slice(dependency)?;
     }
-    for exclusion in cases::EXCLUSIONS.iter() {
+    for exclusion in &cases::EXCLUSIONS {
         words.extend_from_slice(exclusion)?;
     }
     Ok(words)
 }
 
-/// Puts the case's value in the place of its word.
-fn damage(words: &mut Vec<u32>, case: &Case) {
-    let (_, word, value) = *case;
-    if word < words.len() {
-        words[word] = value;
+/// The good file, with the value of each case in the place of its word.
+fn damaged(heap: Global, cases: &[Case]) -> Result<Vec<u8>, AllocError> {
+    let mut words = good(heap)?;
+    for (_, index, value) in cases {
+        if let Some(word) = words.get_mut(*index) {
+            *word = *value;
+        }
     }
-}
-
-/// The words as the bytes of a file.
-fn encode(heap: Global, words: &[u32]) -> Result<Vec<u8>, AllocError> {
-    let mut bytes = Vec::new(heap);
-    for word in words {
-        bytes.extend_from_slice(&word.to_le_bytes())?;
-    }
-    Ok(bytes)
-}
-
-/// Prints what is said of the good file with one word replaced.
-fn single(rt: &HostRuntime, case: &Case) -> anyhow::Result<()> {
-    let mut words = good(rt.alloc())?;
-    damage(&mut words, case);
-    let line = check::line(rt.alloc(), &encode(rt.alloc(), &words)?)?;
-    let what = case.0;
-    println!(rt; "{what}: {line}")?;
-    Ok(())
-}
-
-/// Prints what is said of the good file with two words replaced.
-fn double(rt: &HostRuntime, first: &Case, second: &Case) -> anyhow::Result<()> {
-    let mut words = good(rt.alloc())?;
-    damage(&mut words, first);
-    damage(&mut words, second);
-    let line = check::line(rt.alloc(), &encode(rt.alloc(), &words)?)?;
-    let one = first.0;
-    let other = second.0;
-    println!(rt; "{one}, {other}: {line}")?;
-    Ok(())
-}
-
-/// Prints what is said of the smallest file, cut off after each number of bytes.
-fn truncated(rt: &HostRuntime) -> anyhow::Result<()> {
-    let mut words = Vec::from_slice(rt.alloc(), &cases::SMALLEST)?;
-    words.extend_from_slice(&cases::SMALLEST_TASK)?;
-    let bytes = encode(rt.alloc(), &words)?;
-    for length in 0..bytes.len() + 1 {
-        let line = check::line(rt.alloc(), &bytes[0..length])?;
-        println!(rt; "{length} bytes of the smallest file: {line}")?;
-    }
-    Ok(())
+    words::encode(heap, &words)
 }
 
 /// The words of the largest file: the windows of a processor follow one another tick by tick.
@@ -82,7 +42,7 @@ fn largest(heap: Global) -> Result<Vec<u32>, AllocError> {
     for _ in 0..64 {
         words.extend_from_slice(&cases::LARGEST_TASK)?;
     }
-    for window in 0..64u32 {
+    for window in 0..64 {
         let begin = window % 16;
         words.extend_from_slice(&[window / 16, 7, begin, begin + 1])?;
     }
@@ -95,31 +55,56 @@ fn largest(heap: Global) -> Result<Vec<u32>, AllocError> {
     Ok(words)
 }
 
-/// Prints what is said of the largest file.
-fn whole(rt: &HostRuntime) -> anyhow::Result<()> {
-    let bytes = encode(rt.alloc(), &largest(rt.alloc())?)?;
-    let length = bytes.len();
-    let line = check::line(rt.alloc(), &bytes)?;
-    println!(rt; "the largest file, {length} bytes: {line}")?;
+/// Prints what is said of a file.
+fn say(rt: &HostRuntime, title: &str, file: &[u8]) -> anyhow::Result<()> {
+    let line = check::line(rt.alloc(), file)?;
+    println!(rt; "{title}: {line}")?;
     Ok(())
 }
 
-/// Prints what is said of the good file with zeros behind it, up to a length.
-fn lengthened(rt: &HostRuntime, length: usize) -> anyhow::Result<()> {
-    let mut bytes = encode(rt.alloc(), &good(rt.alloc())?)?;
-    for _ in bytes.len()..length {
-        bytes.push(0)?;
+/// The good file with one word replaced.
+fn single(rt: &HostRuntime, case: &Case) -> anyhow::Result<()> {
+    say(rt, case.0, &damaged(rt.alloc(), &[*case])?)
+}
+
+/// The good file with two words replaced.
+fn double(rt: &HostRuntime, first: &Case, second: &Case) -> anyhow::Result<()> {
+    let title = format!(in rt.alloc(); "{}, {}", first.0, second.0)?;
+    say(rt, &title, &damaged(rt.alloc(), &[*first, *second])?)
+}
+
+/// The smallest file, cut off after each number of bytes.
+fn truncated(rt: &HostRuntime) -> anyhow::Result<()> {
+    let mut words = Vec::from_slice(rt.alloc(), &cases::SMALLEST)?;
+    words.extend_from_slice(&cases::SMALLEST_TASK)?;
+    let bytes = words::encode(rt.alloc(), &words)?;
+    for length in 0..=bytes.len() {
+        let title = format!(in rt.alloc(); "{length} bytes of the smallest file")?;
+        say(rt, &title, &bytes[..length])?;
     }
-    let line = check::line(rt.alloc(), &bytes)?;
-    println!(rt; "lengthened to {length} bytes: {line}")?;
     Ok(())
+}
+
+/// The largest file, whole.
+fn whole(rt: &HostRuntime) -> anyhow::Result<()> {
+    let bytes = words::encode(rt.alloc(), &largest(rt.alloc())?)?;
+    let title = format!(in rt.alloc(); "the largest file, {} bytes", bytes.len())?;
+    say(rt, &title, &bytes)
+}
+
+/// The good file with zeros behind it, up to a length.
+fn lengthened(rt: &HostRuntime, length: usize) -> anyhow::Result<()> {
+    let mut bytes = damaged(rt.alloc(), &[])?;
+    bytes.resize(length, 0)?;
+    let title = format!(in rt.alloc(); "lengthened to {length} bytes")?;
+    say(rt, &title, &bytes)
 }
 
 fn run(rt: &HostRuntime) -> anyhow::Result<()> {
-    for case in cases::SINGLE.iter() {
+    for case in &cases::SINGLE {
         single(rt, case)?;
     }
-    for (first, second) in cases::DOUBLE.iter() {
+    for (first, second) in &cases::DOUBLE {
         double(rt, first, second)?;
     }
     truncated(rt)?;

@@ -9,15 +9,22 @@ use table::part::Part;
 use table::row::Row;
 use table::table::Table;
 
+/// Puts the value in the place of a word.
+fn replace(words: &mut [u32], index: usize, value: u32) {
+    if let Some(word) = words.get_mut(index) {
+        *word = value;
+    }
+}
+
 /// The words of the records, with the change made.
-fn words(heap: Global, records: Records, change: &Change) -> Result<Vec<u32>, AllocError> {
+fn stated(heap: Global, records: Records, change: &Change) -> Result<Vec<u32>, AllocError> {
     let mut words = Vec::new(heap);
     for record in records {
         words.extend_from_slice(record)?;
     }
     match change {
         Change::Nothing => {}
-        Change::Word(word, value) => replace(&mut words, *word, *value),
+        Change::Word(index, value) => replace(&mut words, *index, *value),
         Change::Exclusion(exclusion) => {
             replace(&mut words, EXCLUSIONS, 1);
             words.extend_from_slice(exclusion)?;
@@ -26,23 +33,10 @@ fn words(heap: Global, records: Records, change: &Change) -> Result<Vec<u32>, Al
     Ok(words)
 }
 
-/// Puts the value in the place of a word.
-fn replace(words: &mut Vec<u32>, word: usize, value: u32) {
-    if word < words.len() {
-        words[word] = value;
-    }
-}
-
 /// The problem that the records state, with the change made.
 fn problem(heap: Global, records: Records, change: &Change) -> anyhow::Result<Problem> {
-    let mut bytes = Vec::new(heap);
-    for word in words(heap, records, change)?.iter() {
-        bytes.extend_from_slice(&word.to_le_bytes())?;
-    }
-    match open(heap, &bytes) {
-        Ok(problem) => Ok(problem),
-        Err(_) => Err(anyhow!("the problem does not open")),
-    }
+    let file = words::encode(heap, &stated(heap, records, change)?)?;
+    open(heap, &file).map_err(|_| anyhow!("the problem does not open"))
 }
 
 /// Gives a task its row, and answers whether that has lawful shape.

@@ -48,19 +48,14 @@ fn meeting(rt: &HostRuntime, table: &Table, place: u32) -> anyhow::Result<()> {
     Ok(())
 }
 
-/// Prints what the published book says of a table.
-fn judged(
-    rt: &HostRuntime,
-    title: &str,
-    records: Records,
-    change: &Change,
-    rows: &[Entry],
-) -> anyhow::Result<()> {
-    let Some(table) = building::table(rt.alloc(), records, change, rows)? else {
+/// Prints what the published book says of a case's table.
+fn judged(rt: &HostRuntime, records: Records, case: &Case) -> anyhow::Result<()> {
+    let (title, change, rows) = *case;
+    let Some(table) = building::table(rt.alloc(), records, &change, rows)? else {
         return say(rt, title, Outcome::NoTable);
     };
     let broken = first_broken_label(&table);
-    say(rt, title, Outcome::of(broken))?;
+    say(rt, title, broken.into())?;
     match broken {
         Some(Label { rule: 8, place }) => meeting(rt, &table, place),
         _ => Ok(()),
@@ -69,8 +64,8 @@ fn judged(
 
 /// Judges the tables of cases for a problem, each with its change made.
 fn trials(rt: &HostRuntime, records: Records, cases: &[Case]) -> anyhow::Result<()> {
-    for (title, change, rows) in cases {
-        judged(rt, title, records, change, rows)?;
+    for case in cases {
+        judged(rt, records, case)?;
     }
     Ok(())
 }
@@ -83,7 +78,11 @@ fn judged_by<R: Rule>(
     rows: &[Entry],
 ) -> anyhow::Result<()> {
     let table = building::table(rt.alloc(), problems::WORKED, &Change::Nothing, rows)?;
-    say(rt, title, Outcome::under(book, &table))
+    say(
+        rt,
+        title,
+        table.map_or(Outcome::NoTable, |table| Outcome::under(book, &table)),
+    )
 }
 
 /// The book with the places from `first` up to `end` waived. Each is given twice: one that is listed needs no more room.
@@ -107,31 +106,34 @@ fn waived(rt: &HostRuntime, rows: &[Entry], cases: &[Waived]) -> anyhow::Result<
     Ok(())
 }
 
-/// Judges tables inside one partition.
-fn confined(rt: &HostRuntime, piles: &[Pile]) -> anyhow::Result<()> {
-    for (title, partition, rows) in piles {
-        let book = Confinement {
-            rule: LINKS,
-            partition: *partition,
-        };
-        judged_by(rt, title, &book, rows)?;
+/// Judges tables, each by the book that is made of its number.
+fn piled<R: Rule + Drop, F: Fn(u32) -> R>(
+    rt: &HostRuntime,
+    piles: &[Pile],
+    book: F,
+) -> anyhow::Result<()>
+    requires { F.IsAlwaysCallable book }
+{
+    for (title, number, rows) in piles {
+        judged_by(rt, title, &book(*number), rows)?;
     }
     Ok(())
 }
 
-/// Judges tables by the book and then by the rule of the spare processor.
-fn spared(rt: &HostRuntime, piles: &[Pile]) -> anyhow::Result<()> {
-    for (title, processor, rows) in piles {
-        let spare = SpareProcessor {
-            processor: *processor,
-        };
-        let book = Pair {
-            first: LINKS,
-            second: spare,
-        };
-        judged_by(rt, title, &book, rows)?;
+/// The book, inside one partition.
+fn confined(partition: u32) -> Confinement<Links> {
+    Confinement {
+        rule: LINKS,
+        partition,
     }
-    Ok(())
+}
+
+/// The book, and then the rule of the spare processor.
+fn spared(processor: u32) -> Pair<Links, SpareProcessor> {
+    Pair {
+        first: LINKS,
+        second: SpareProcessor { processor },
+    }
 }
 
 fn run(rt: &HostRuntime) -> anyhow::Result<()> {
@@ -141,8 +143,8 @@ fn run(rt: &HostRuntime) -> anyhow::Result<()> {
     trials(rt, problems::LONG_AND_SHORT, &cases::LONG_AND_SHORT_CHANGED)?;
     trials(rt, problems::SHORT_AND_LONG, &cases::SHORT_AND_LONG)?;
     waived(rt, cases::WITH_D, &cases::WAIVED)?;
-    confined(rt, &cases::CONFINED)?;
-    spared(rt, &cases::SPARED)
+    piled(rt, &cases::CONFINED, confined)?;
+    piled(rt, &cases::SPARED, spared)
 }
 
 fn main(rt: HostRuntime) -> anyhow::Result<()> {

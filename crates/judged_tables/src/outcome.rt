@@ -15,24 +15,18 @@ pub enum Outcome {
     Full(u32),
 }
 
-impl Outcome {
-    /// What a judgement of the whole table says.
-    pub(crate) fn of(broken: Option<Label>) -> Outcome {
-        match broken {
-            None => Outcome::Lawful,
-            Some(label) => Outcome::Broken(label),
-        }
+/// What the label of the first broken place says, or that there is none.
+impl From<Option<Label>> for Outcome {
+    fn from(broken: Option<Label>) -> Outcome {
+        broken.map_or(Outcome::Lawful, Outcome::Broken)
     }
+}
 
-    /// What a book says of a table, if there is one.
-    pub(crate) fn under<R: Rule>(book: &R, table: &Option<Table>) -> Outcome {
-        let Some(table) = table else {
-            return Outcome::NoTable;
-        };
-        match first_broken(book, table) {
-            None => Outcome::Lawful,
-            Some(place) => Outcome::Broken(book.label(&table.problem, place)),
-        }
+impl Outcome {
+    /// What a book says of a table.
+    pub(crate) fn under<R: Rule>(book: &R, table: &Table) -> Outcome {
+        let broken = first_broken(book, table);
+        broken.map(|place| book.label(&table.problem, place)).into()
     }
 }
 

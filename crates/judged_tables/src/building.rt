@@ -17,24 +17,24 @@ fn replace(words: &mut [u32], index: usize, value: u32) {
 }
 
 /// The words of the records, with the change made.
-fn stated(heap: Global, records: Records, change: &Change) -> Result<Vec<u32>, AllocError> {
+fn stated(heap: Global, records: Records, change: Option<Change>) -> Result<Vec<u32>, AllocError> {
     let mut words = Vec::new(heap);
     for record in records {
         words.extend_from_slice(record)?;
     }
     match change {
-        Change::Nothing => {}
-        Change::Word(index, value) => replace(&mut words, *index, *value),
-        Change::Exclusion(exclusion) => {
+        None => {}
+        Some(Change::Word(index, value)) => replace(&mut words, index, value),
+        Some(Change::Exclusion(exclusion)) => {
             replace(&mut words, EXCLUSIONS, 1);
-            words.extend_from_slice(exclusion)?;
+            words.extend_from_slice(&exclusion)?;
         }
     }
     Ok(words)
 }
 
 /// The problem that the records state, with the change made.
-fn problem(heap: Global, records: Records, change: &Change) -> anyhow::Result<Problem> {
+fn problem(heap: Global, records: Records, change: Option<Change>) -> anyhow::Result<Problem> {
     let file = words::encode(heap, &stated(heap, records, change)?)?;
     open(heap, &file).map_err(|_| anyhow!("the problem does not open"))
 }
@@ -62,7 +62,7 @@ fn put(heap: Global, table: &mut Table, entry: &Entry) -> anyhow::Result<bool> {
 pub(crate) fn table(
     heap: Global,
     records: Records,
-    change: &Change,
+    change: Option<Change>,
     rows: &[Entry],
 ) -> anyhow::Result<Option<Table>> {
     let mut table = Table::empty(heap, problem(heap, records, change)?)?;

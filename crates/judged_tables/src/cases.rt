@@ -4,7 +4,7 @@ use crate::problems::{Change, DEADLINE_OF_B, RELEASE_OF_B};
 pub type Entry = (u32, u32, &'static [(u32, u32)]);
 
 /// What the case shows, how its problem differs, and the rows of its table.
-pub type Case = (&'static str, Change, &'static [Entry]);
+pub type Case = (&'static str, Option<Change>, &'static [Entry]);
 
 /// What the case shows, the partition that counts or the processor that is spare, and the rows of its table.
 pub type Pile = (&'static str, u32, &'static [Entry]);
@@ -41,99 +41,59 @@ const B_EARLY: Entry = (1, 0, &[(40, 70), (80, 100)]);
 
 /// Tables for the worked example: lawful ones and parts of them, a breach of each rule, rows without lawful shape.
 pub static WORKED: [Case; 28] = [
-    ("the worked example", Change::Nothing, &[A, B, C]),
-    ("no rows", Change::Nothing, &[]),
-    ("only A", Change::Nothing, &[A]),
-    ("only B", Change::Nothing, &[B]),
-    ("only C", Change::Nothing, &[C]),
-    ("only D", Change::Nothing, &[D]),
+    ("the worked example", None, &[A, B, C]),
+    ("no rows", None, &[]),
+    ("only A", None, &[A]),
+    ("only B", None, &[B]),
+    ("only C", None, &[C]),
+    ("only D", None, &[D]),
     (
         "B in four parts",
-        Change::Nothing,
+        None,
         &[A, (1, 0, &[(80, 90), (90, 100), (140, 150), (150, 170)]), C],
     ),
-    (
-        "C on processor 1 from 75 to 85",
-        Change::Nothing,
-        &[A, B, C_IN_TIME],
-    ),
+    ("C on processor 1 from 75 to 85", None, &[A, B, C_IN_TIME]),
     (
         "C on processor 1 from 290 to 300",
-        Change::Nothing,
+        None,
         &[A, B, (2, 1, &[(290, 300)])],
     ),
     (
         "B on processor 1",
-        Change::Nothing,
+        None,
         &[A, (1, 1, &[(80, 100), (140, 170)]), C],
     ),
-    (
-        "A from 0 to 19",
-        Change::Nothing,
-        &[(0, 0, &[(0, 19)]), B, C],
-    ),
+    ("A from 0 to 19", None, &[(0, 0, &[(0, 19)]), B, C]),
     (
         "A in two parts",
-        Change::Nothing,
+        None,
         &[(0, 0, &[(0, 10), (10, 20)]), B, C],
     ),
-    (
-        "C from 69 to 79",
-        Change::Nothing,
-        &[A, B, (2, 0, &[(69, 79)])],
-    ),
-    (
-        "C from 71 to 81",
-        Change::Nothing,
-        &[A, B, (2, 0, &[(71, 81)])],
-    ),
+    ("C from 69 to 79", None, &[A, B, (2, 0, &[(69, 79)])]),
+    ("C from 71 to 81", None, &[A, B, (2, 0, &[(71, 81)])]),
     (
         "C on processor 1 from 299 to 309",
-        Change::Nothing,
+        None,
         &[A, B, (2, 1, &[(299, 309)])],
     ),
-    (
-        "B to 180",
-        Change::Nothing,
-        &[A, (1, 0, &[(80, 100), (140, 180)]), C],
-    ),
-    (
-        "B from 5",
-        Change::Nothing,
-        &[A, (1, 0, &[(5, 25), (40, 70)]), C],
-    ),
-    ("A after B", Change::Nothing, &[A_LATE, B_EARLY, C]),
-    (
-        "C on processor 1 from 74 to 84",
-        Change::Nothing,
-        &[A, B, C_TOO_EARLY],
-    ),
-    ("with D", Change::Nothing, WITH_D),
-    ("only B and D", Change::Nothing, &[B, D]),
-    (
-        "B to 181",
-        Change::Nothing,
-        &[A, (1, 0, &[(80, 100), (140, 181)]), C],
-    ),
+    ("B to 180", None, &[A, (1, 0, &[(80, 100), (140, 180)]), C]),
+    ("B from 5", None, &[A, (1, 0, &[(5, 25), (40, 70)]), C]),
+    ("A after B", None, &[A_LATE, B_EARLY, C]),
+    ("C on processor 1 from 74 to 84", None, &[A, B, C_TOO_EARLY]),
+    ("with D", None, WITH_D),
+    ("only B and D", None, &[B, D]),
+    ("B to 181", None, &[A, (1, 0, &[(80, 100), (140, 181)]), C]),
     (
         "C on processor 1 from 300 to 310",
-        Change::Nothing,
+        None,
         &[A, B, (2, 1, &[(300, 310)])],
     ),
-    (
-        "C on processor 2",
-        Change::Nothing,
-        &[A, B, (2, 2, &[(70, 80)])],
-    ),
-    ("C without a part", Change::Nothing, &[A, B, (2, 0, &[])]),
-    (
-        "C with an empty part",
-        Change::Nothing,
-        &[A, B, (2, 0, &[(70, 70)])],
-    ),
+    ("C on processor 2", None, &[A, B, (2, 2, &[(70, 80)])]),
+    ("C without a part", None, &[A, B, (2, 0, &[])]),
+    ("C with an empty part", None, &[A, B, (2, 0, &[(70, 70)])]),
     (
         "B in five parts",
-        Change::Nothing,
+        None,
         &[
             A,
             (
@@ -146,7 +106,7 @@ pub static WORKED: [Case; 28] = [
     ),
     (
         "B with its parts out of order",
-        Change::Nothing,
+        None,
         &[A, (1, 0, &[(140, 170), (80, 100)]), C],
     ),
 ];
@@ -155,33 +115,37 @@ pub static WORKED: [Case; 28] = [
 pub static WORKED_CHANGED: [Case; 7] = [
     (
         "B released at 80",
-        Change::Word(RELEASE_OF_B, 80),
+        Some(Change::Word(RELEASE_OF_B, 80)),
         &[A, B, C],
     ),
     (
         "B released at 81",
-        Change::Word(RELEASE_OF_B, 81),
+        Some(Change::Word(RELEASE_OF_B, 81)),
         &[A, B, C],
     ),
-    ("B due at 169", Change::Word(DEADLINE_OF_B, 169), &[A, B, C]),
+    (
+        "B due at 169",
+        Some(Change::Word(DEADLINE_OF_B, 169)),
+        &[A, B, C],
+    ),
     (
         "with D, exclusion 1 3 1",
-        Change::Exclusion([1, 3, 1]),
+        Some(Change::Exclusion([1, 3, 1])),
         WITH_D,
     ),
     (
         "with D, exclusion 1 3 0",
-        Change::Exclusion([1, 3, 0]),
+        Some(Change::Exclusion([1, 3, 0])),
         WITH_D,
     ),
     (
         "with D, exclusion 1 3 2",
-        Change::Exclusion([1, 3, 2]),
+        Some(Change::Exclusion([1, 3, 2])),
         WITH_D,
     ),
     (
         "with D, exclusion 3 1 1",
-        Change::Exclusion([3, 1, 1]),
+        Some(Change::Exclusion([3, 1, 1])),
         WITH_D,
     ),
 ];
@@ -205,57 +169,49 @@ const SHORT_FAR: Entry = (1, 0, &[(290, 295), (302, 307)]);
 pub static LONG_AND_SHORT: [Case; 11] = [
     (
         "long carried over, short from 20",
-        Change::Nothing,
+        None,
         &[LONG_CARRIED, SHORT],
     ),
     (
         "long carried over, short from 45",
-        Change::Nothing,
+        None,
         &[LONG_CARRIED, (1, 0, &[(45, 55)])],
     ),
     (
         "long carried over, short from 0",
-        Change::Nothing,
+        None,
         &[LONG_CARRIED, (1, 0, &[(0, 10)])],
     ),
     (
         "long carried over, short from 1",
-        Change::Nothing,
+        None,
         &[LONG_CARRIED, (1, 0, &[(1, 11)])],
     ),
     (
         "long carried over, short from 39",
-        Change::Nothing,
+        None,
         &[LONG_CARRIED, (1, 0, &[(39, 49)])],
     ),
     (
         "long carried over, short from 40",
-        Change::Nothing,
+        None,
         &[LONG_CARRIED, (1, 0, &[(40, 50)])],
     ),
     (
         "long carried over, short from 61",
-        Change::Nothing,
+        None,
         &[LONG_CARRIED, (1, 0, &[(61, 71)])],
     ),
-    (
-        "long carried far, short from 20",
-        Change::Nothing,
-        &[LONG_FAR, SHORT],
-    ),
+    ("long carried far, short from 20", None, &[LONG_FAR, SHORT]),
     (
         "long carried far, short from 40",
-        Change::Nothing,
+        None,
         &[LONG_FAR, (1, 0, &[(40, 50)])],
     ),
-    (
-        "short carried far, to 307",
-        Change::Nothing,
-        &[LONG_FIRST, SHORT_FAR],
-    ),
+    ("short carried far, to 307", None, &[LONG_FIRST, SHORT_FAR]),
     (
         "short carried far, to 365",
-        Change::Nothing,
+        None,
         &[LONG_FIRST, (1, 0, &[(290, 295), (360, 365)])],
     ),
 ];
@@ -264,22 +220,22 @@ pub static LONG_AND_SHORT: [Case; 11] = [
 pub static LONG_AND_SHORT_CHANGED: [Case; 4] = [
     (
         "long carried far, exclusion 0 1 3",
-        Change::Exclusion([0, 1, 3]),
+        Some(Change::Exclusion([0, 1, 3])),
         &[LONG_FAR, SHORT],
     ),
     (
         "long carried far, exclusion 1 0 3",
-        Change::Exclusion([1, 0, 3]),
+        Some(Change::Exclusion([1, 0, 3])),
         &[LONG_FAR, SHORT],
     ),
     (
         "short carried far, exclusion 0 1 3",
-        Change::Exclusion([0, 1, 3]),
+        Some(Change::Exclusion([0, 1, 3])),
         &[LONG_FIRST, SHORT_FAR],
     ),
     (
         "short carried far, exclusion 1 0 3",
-        Change::Exclusion([1, 0, 3]),
+        Some(Change::Exclusion([1, 0, 3])),
         &[LONG_FIRST, SHORT_FAR],
     ),
 ];
@@ -288,12 +244,12 @@ pub static LONG_AND_SHORT_CHANGED: [Case; 4] = [
 pub static SHORT_AND_LONG: [Case; 2] = [
     (
         "short first, from 10",
-        Change::Nothing,
+        None,
         &[(0, 0, &[(10, 20)]), (1, 0, &[(80, 100), (100, 130)])],
     ),
     (
         "short first, from 40",
-        Change::Nothing,
+        None,
         &[(0, 0, &[(40, 50)]), (1, 0, &[(80, 100), (100, 130)])],
     ),
 ];

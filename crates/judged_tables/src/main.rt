@@ -15,7 +15,7 @@ use piles::confinement::Confinement;
 use piles::fault::WaiverFull;
 use piles::pair::Pair;
 use piles::waiver::Waiver;
-use problems::{Change, Records};
+use problems::Records;
 use published::judge::first_broken_label;
 use rules::label::Label;
 use rules::rule::Rule;
@@ -51,7 +51,7 @@ fn meeting(rt: &HostRuntime, table: &Table, place: u32) -> anyhow::Result<()> {
 /// Prints what the published book says of a case's table.
 fn judged(rt: &HostRuntime, records: Records, case: &Case) -> anyhow::Result<()> {
     let (title, change, rows) = *case;
-    let Some(table) = building::table(rt.alloc(), records, &change, rows)? else {
+    let Some(table) = building::table(rt.alloc(), records, change, rows)? else {
         return say(rt, title, Outcome::NoTable);
     };
     let broken = first_broken_label(&table);
@@ -77,7 +77,7 @@ fn judged_by<R: Rule>(
     book: &R,
     rows: &[Entry],
 ) -> anyhow::Result<()> {
-    let table = building::table(rt.alloc(), problems::WORKED, &Change::Nothing, rows)?;
+    let table = building::table(rt.alloc(), problems::WORKED, None, rows)?;
     say(
         rt,
         title,

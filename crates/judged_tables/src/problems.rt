@@ -45,7 +45,6 @@ pub const DEADLINE_OF_B: usize = 21;
 /// How the problem of a case differs from the one that it is made from.
 #[derive(Clone, Copy)]
 pub enum Change {
-    Nothing,
     /// Another value for a word.
     Word(usize, u32),
     /// An exclusion, where there was none: two tasks and a distance.

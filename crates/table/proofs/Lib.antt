@@ -1,4 +1,3 @@
-mod Turns
 pub mod Shapes
 mod Slots
 pub mod Known

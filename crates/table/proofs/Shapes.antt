@@ -1,9 +1,8 @@
 -- Tables stay in lawful shape where rows are put in and taken out.
-use Rattle.std.proofs.Common.{◌≡◌, ℕ, zero, suc, ◌<◌, ltb, ◌⊎◌, List, [], ◌∷◌, length, get_or, set, replicate, Some, None, Option, ◌∙◌, inl, inr, arith}
+use Rattle.std.proofs.Common.{◌≡◌, ℕ, zero, suc, ◌<◌, ◌⊎◌, List, [], ◌∷◌, length, get_or, set, replicate, Some, None, Option, ◌∙◌, inl, inr, arith}
 use Rattle.std.proofs.lemmas.List.{get_or_past, length-set, length-replicate}
-use Rattle.std.proofs.lemmas.Bool.{cases_lt, cond-true, lt-ltb}
+use Rattle.std.proofs.lemmas.Bool.{cases_lt}
 use Rattle.problem.specs.Limits.{Model, Within}
-use Rattle.problem.specs.Lookup.{task_at, task_in}
 use Rattle.table.specs.Rows.{RowModel, Rows, row_at, no_rows}
 use Rattle.table.specs.Shape.{LawfulShape, Shaped}
 
@@ -42,7 +41,3 @@ row_number p rows t row s e =
       | inl h ↦ omega (arith, s.places)
       | inr h ↦ absurd (let past = get_or_past rows t None h in let z : ◌≡◌ {A = ℕ} 0 1 = cc in omega arith)
     ]
-
--- the problem has the task of a number below the count
-pub task_number : (p : Model) (t : ℕ) → Within p → t < p.dimensions.tasks → task_in p t ≡ Some (task_at p t)
-task_number p t w h = cond-true (ltb t (length p.tasks)) _ _ (lt-ltb t (length p.tasks) (omega (arith, w.task_count)))

@@ -9,19 +9,13 @@ impl Row<'_> {
     pub fn start(&self) -> u32
         ensures { result ≡ start_of (row_model self.now) }
     {
-        match self.parts.first() {
-            Some(part) => part.begin,
-            None => 0,
-        }
+        self.parts.first().map_or(0, |part| part.begin)
     }
 
     /// When the row ends: its last end, or 0 without parts.
     pub fn end(&self) -> u32
         ensures { result ≡ end_of (row_model self.now) }
     {
-        match self.parts.last() {
-            Some(part) => part.end,
-            None => 0,
-        }
+        self.parts.last().map_or(0, |part| part.end)
     }
 }

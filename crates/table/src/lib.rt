@@ -2,6 +2,7 @@
 #![tactic(auto)]
 
 pub mod dates;
+pub mod fault;
 pub mod part;
 pub mod placed;
 pub mod row;

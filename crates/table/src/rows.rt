@@ -1,12 +1,13 @@
-ghost use Rattle.std.specs.Prelude.{◌≡◌, ◌<◌, IfOk, if◌then◌else◌, Some, None, Decides};
+ghost use Rattle.std.specs.Prelude.{◌≡◌, ◌<◌, IfOk, if◌then◌else◌, Some, None};
 ghost use Rattle.std.specs.Option.{option_map};
 ghost use Rattle.table.specs.Placed.{PlacedAt};
-ghost use Rattle.table.specs.Put.{MayPut, put, without};
+ghost use Rattle.table.specs.Put.{Puts, without};
 ghost use Rattle.table.specs.Row.{row_model};
 ghost use Rattle.table.specs.Rows.{no_rows, row_at};
 ghost use Rattle.table.specs.Shape.{Shaped};
 ghost use Rattle.table.specs.Table.{problem_of, rows_of};
 
+use crate::fault::PutFault;
 use crate::placed::Placed;
 use crate::row::Row;
 use crate::stored::StoredRow;
@@ -29,44 +30,41 @@ impl Table {
         ensures value { option_map row_model result ≡ row_at (rows_of self.now) task }
         ensures shaped { Shaped (problem_of self.now) (rows_of self.now) }
     {
-        let task = task as usize;
-        if task >= self.rows.len() {
-            return None;
-        }
-        match &self.rows[task] {
-            Some(stored) => Some(Row {
-                processor: stored.processor,
-                parts: &stored.parts[0..stored.count],
-            }),
-            None => None,
-        }
+        let stored = self.rows.get(task as usize)?.as_ref()?;
+        Some(Row {
+            processor: stored.processor,
+            parts: stored.parts.as_slice(),
+        })
     }
 
     /// A task with its row, or nothing where it has none.
     pub fn placed(&self, task: u32) -> Option<Placed<'_>>
         ensures { PlacedAt (problem_of self.now) (rows_of self.now) task result }
     {
-        let Some(row) = self.row(task) else {
-            return None;
-        };
-        let Some(task) = self.problem.task(task) else {
-            return None;
-        };
-        Some(Placed { task, row })
+        let row = self.row(task)?;
+        let task = self.problem.task(task)?;
+        Some(Placed {
+            problem: &self.problem,
+            task,
+            row,
+        })
     }
 
-    /// Gives a task the row in place of any that it has. Answers false, and changes nothing, where the problem has no such task or the row has not lawful shape.
-    pub fn put(&mut self, task: u32, row: Row<'_>) -> bool
-        ensures test { Decides result (MayPut (problem_of self.old) task (row_model row.entry)) }
-        ensures rows { rows_of self.new ≡ (if result then put (rows_of self.old) task (row_model row.entry) else rows_of self.old) }
+    /// Gives a task the row in place of any that it has. Changes nothing where the problem has no such task, or else the row has not lawful shape.
+    pub fn put(&mut self, task: u32, row: Row<'_>) -> Result<(), PutFault>
+        ensures rows { Puts (problem_of self.old) (rows_of self.old) task (row_model row.entry) result (rows_of self.new) }
         ensures problem { self.new.problem ≡ self.old.problem }
     {
         let dimensions = self.problem.dimensions;
-        if task >= dimensions.tasks || !row.has_lawful_shape(&dimensions) {
-            return false;
+        if task >= dimensions.tasks {
+            return Err(PutFault::UnknownTask);
         }
-        self.rows[task as usize] = Some(StoredRow::keep(row));
-        true
+        if !row.has_lawful_shape(&dimensions) {
+            return Err(PutFault::UnlawfulShape);
+        }
+        let stored = StoredRow::keep(row).ok_or(PutFault::UnlawfulShape)?;
+        self.rows[task as usize] = Some(stored);
+        Ok(())
     }
 
     /// Takes a task's row out, if it has one.
@@ -74,9 +72,8 @@ impl Table {
         ensures rows { rows_of self.new ≡ without (rows_of self.old) task }
         ensures problem { self.new.problem ≡ self.old.problem }
     {
-        let task = task as usize;
-        if task < self.rows.len() {
-            self.rows[task] = None;
+        if let Some(kept) = self.rows.get_mut(task as usize) {
+            *kept = None;
         }
     }
 }

@@ -1,6 +1,6 @@
 ghost use Rattle.problem.specs.Model.{model};
 ghost use Rattle.table.specs.Shape.{Shaped};
-ghost use Rattle.table.specs.Stored.{Counted, stored_rows};
+ghost use Rattle.table.specs.Stored.{stored_rows};
 
 use crate::stored::StoredRow;
 use problem::problem::Problem;
@@ -10,6 +10,5 @@ use problem::problem::Problem;
 pub struct Table {
     pub problem: Problem,
     pub(crate) rows: Vec<Option<StoredRow>>,
-    ghost counted: { Counted rows.items },
     ghost shaped: { ∥ Shaped (model problem) (stored_rows rows.items) ∥₁ },
 }

@@ -1,17 +1,18 @@
 -- What the laws give: a change of some rows leaves the places that do not name their tasks kept, and every part of a lawful table is lawful.
-use Rattle.std.proofs.Common.{◌≡◌, ℕ, ◌⊎◌, List, [], ◌∷◌, Some, None, Option, sym, refl, ◌∙◌, subst, inl, inr, arith}
+use Rattle.std.proofs.Common.{◌≡◌, ℕ, ◌<◌, ◌≤◌, ◌⊎◌, List, [], ◌∷◌, Some, None, Option, sym, refl, ◌∙◌, subst, inl, inr, arith}
 use Rattle.std.proofs.ByRecursion.{all-has}
 use Rattle.std.proofs.lemmas.List.{length-set}
 use Rattle.std.specs.List.{ContainsAt as Has, AllByRecursion}
+use Rattle.std.specs.Option.{MatchOption}
 use Rattle.problem.specs.Limits.{Model}
 use Rattle.table.specs.Put.{without}
 use Rattle.table.specs.Rows.{Rows, row_at, Agree}
 use Rattle.table.specs.Shape.{Shaped}
 use Rattle.table.proofs.Shapes.{set_at}
-use Rattle.rules.specs.Judged.{Keeps}
+use Rattle.rules.specs.Judged.{Keeps, Breaks}
 use Rattle.rules.specs.Lawful.{Lawful, PartOf, DifferAt}
 use Rattle.rules.specs.Meaning.{Meaning, Reach, Absence, Names, tasks_of}
-use Rattle.rules.specs.Search.{NamesEither, FoundNaming, Found}
+use Rattle.rules.specs.Search.{NamesEither, BrokenNaming, KeptNaming, FoundNaming, Found, LastingIfNone}
 use Rattle.rules.proofs.Named.{has_or_not, has_first, has_later, named_below}
 
 -- some task of the list has no row, or the tables agree on all of them
@@ -83,3 +84,29 @@ module _ (m : Meaning) (p : Model) (a b : ℕ) (before after : Rows) (reach : Re
   pub found_after_change : (found : Option ℕ) → FoundNaming m p after a b found → Found m p after found
   found_after_change None all = record { shape = s; keeps = λ k. either_kept k (all k) }
   found_after_change (Some k) first = record { broken = first.broken; before = λ j h. either_kept j (first.before j h) }
+
+module _ (m : Meaning) (p : Model) (rows : Rows) (count : ℕ) (all : count ≡ m.count p) where
+  -- a search through all places below the count finds the first broken one, or that the table is lawful
+  pub found_first :
+      Shaped p rows → (found : Option ℕ) →
+      MatchOption found ((k : ℕ) → 0 ≤ k → k < count → Keeps m p rows k) (λ i. (0 ≤ i) × (i < count) × Breaks m p rows i × ((k : ℕ) → 0 ≤ k → k < i → Keeps m p rows k)) →
+      Found m p rows found
+  found_first s None kept = record { shape = s; keeps = λ k n h. kept k (omega arith) (omega arith) n h }
+  found_first s (Some k) first = record { broken = first.2; before = λ j h. first.3 j (omega arith) h }
+
+  -- the same of the places that name one of two tasks
+  pub found_naming :
+      (a b : ℕ) (found : Option ℕ) →
+      MatchOption found ((k : ℕ) → 0 ≤ k → k < count → KeptNaming m p rows a b k)
+      (λ i. (0 ≤ i) × (i < count) × BrokenNaming m p rows a b i × ((k : ℕ) → 0 ≤ k → k < i → KeptNaming m p rows a b k)) →
+      FoundNaming m p rows a b found
+  found_naming a b None kept = λ k named n h. (kept k (omega arith) (omega arith)).kept named n h
+  found_naming a b (Some k) first = record { named = first.2.named; broken = first.2.broken; before = λ j h. (first.3 j (omega arith) h).kept }
+
+-- what a lawful table lasts through
+pub found_lasting : (m : Meaning) (p : Model) (rows : Rows) → Reach m → Absence m → (found : Option ℕ) → Found m p rows found → LastingIfNone m p rows found
+found_lasting m p rows reach absence None lawful = record {
+  parts = λ part of. lawful_part m p reach absence part rows of lawful;
+  unnamed = λ after k s same. unnamed_kept m p reach rows after k lawful s same;
+}
+found_lasting m p rows reach absence (Some k) first = tt

@@ -3,3 +3,4 @@ pub mod Judged
 pub mod Lawful
 pub mod Search
 pub mod EachTask
+pub mod Laws

@@ -10,6 +10,15 @@ use Rattle.rules.specs.Meaning.{Meaning, Names}
 abbrev pub NamesEither : Meaning → Model → ℕ → ℕ → ℕ → Type 0
 NamesEither m p k a b = Names m p k a ⊎ Names m p k b
 
+-- a place names one of two tasks and is broken in some frame
+pub record BrokenNaming (m : Meaning) (p : Model) (rows : Rows) (a b k : ℕ) : Type 0 where
+  pub named : NamesEither m p k a b
+  pub broken : Breaks m p rows k
+
+-- a place is kept in every frame if it names one of two tasks
+pub record KeptNaming (m : Meaning) (p : Model) (rows : Rows) (a b k : ℕ) : Type 0 where
+  pub kept : NamesEither m p k a b → Keeps m p rows k
+
 -- the first place, in book order, that names one of two tasks and is broken
 pub record FirstNaming (m : Meaning) (p : Model) (rows : Rows) (a b k : ℕ) : Type 0 where
   pub named : NamesEither m p k a b

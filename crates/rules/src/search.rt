@@ -10,11 +10,5 @@ pub fn first_broken<R: Rule>(book: &R, table: &Table) -> Option<u32>
     ensures found { Found (R.Rule.meaning book.now) (problem_of table.now) (rows_of table.now) result }
     ensures lasting { LastingIfNone (R.Rule.meaning book.now) (problem_of table.now) (rows_of table.now) result }
 {
-    for place in 0..book.count(&table.problem) {
-        match book.judge(table, place) {
-            Judgement::Kept => {}
-            Judgement::Broken => return Some(place),
-        }
-    }
-    None
+    (0..book.count(&table.problem)).find(|place| book.judge(table, *place) == Judgement::Broken)
 }

@@ -1,4 +1,5 @@
-use Rattle.std.specs.Prelude.{◌≡◌, ℕ, ◌+◌, ◌-◌, ◌≤◌, true, List, [], ◌∷◌, length, Some}
+use Rattle.std.specs.Prelude.{◌≡◌, ℕ, ◌-◌, ◌≤◌, true, List, length, Some}
+use Rattle.std.specs.List.{sum_by}
 use Rattle.problem.specs.declared.task.Task.{Task}
 use Rattle.problem.specs.Lookup.{duration_on}
 use Rattle.table.specs.declared.part.Part.{Part}
@@ -6,8 +7,7 @@ use Rattle.table.specs.Rows.{RowModel, start_of, end_of}
 
 -- the lengths of the parts, added up
 abbrev pub ticks_of : List Part → ℕ
-ticks_of [] = 0
-ticks_of (part ∷ parts) = (part.end - part.begin) + ticks_of parts
+ticks_of parts = sum_by (λ part. part.end - part.begin) parts
 
 -- allocation: the duration on the row's processor is not 0
 abbrev pub Allocated : Task → RowModel → Type 0

@@ -1,1 +1,2 @@
 mod Repeated
+mod Tested

@@ -1,8 +1,8 @@
-ghost use Rattle.std.specs.Prelude.{ℕ, ◌<◌, ◌≤◌, ◌↔◌, IsTrue};
+ghost use Rattle.std.specs.Prelude.{◌≡◌};
 ghost use Rattle.problem.specs.Model.{model};
-ghost use Rattle.window_rule.specs.Windows.{InWindows, Inside, Served};
+ghost use Rattle.window_rule.specs.Tests.{served};
+ghost use Rattle.window_rule.specs.Windows.{InWindows};
 
-use problem::window::Window;
 use rules::task_rule::TaskRule;
 use table::part::Part;
 use table::placed::Placed;
@@ -11,33 +11,24 @@ use table::placed::Placed;
 #[derive(Clone, Copy)]
 pub struct Windows;
 
-/// The part lies inside a repetition of the window, whichever instance it is of.
-fn is_inside(part: &Part, window: &Window, frame: u32) -> bool
-    requires frame { 1 ≤ frame }
-    requires window { window.now.end ≤ frame }
-    requires part { part.now.begin < part.now.end }
-    ensures { (n : ℕ) → (IsTrue result ↔ Inside frame part.now n window.now) }
-{
-    let start = part.begin % frame;
-    let length = part.end - part.begin;
-    window.begin <= start && u64::from(start) + u64::from(length) <= u64::from(window.end)
-}
-
-/// The part lies inside one window of the task's partition on the row's processor, whichever instance it is of.
+/// A window of the task's partition on the row's processor serves the part where it lies in the frame in which it begins.
+/// Windows end with the frame, so a part that crosses its end lies inside none.
 fn is_served(placed: &Placed<'_>, part: &Part) -> bool
-    requires { part.now.begin < part.now.end }
-    ensures { (n : ℕ) → (IsTrue result ↔ Served (model placed.now.problem.now) placed.now.task.partition placed.now.row.processor n part.now) }
+    ensures { result ≡ served (model placed.now.problem.now) placed.now.task.partition placed.now.row.processor part.now }
 {
-    let frame = placed.problem.dimensions.frame;
+    let begin = part.begin % placed.problem.dimensions().frame;
+    let end = u64::from(begin) + u64::from(part.end.saturating_sub(part.begin));
     placed.problem.windows.iter().any(|window| {
         window.partition == placed.task.partition
             && window.processor == placed.row.processor
-            && is_inside(part, window, frame)
+            && window.begin <= begin
+            && end <= u64::from(window.end)
     })
 }
 
 impl TaskRule for Windows {
     const NUMBER: u32 = 4;
+
     ghost NUMBER = { 4 };
 
     ghost wanted = { λ _. InWindows };

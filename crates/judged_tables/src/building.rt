@@ -49,13 +49,11 @@ fn put(heap: Global, table: &mut Table, entry: &Entry) -> anyhow::Result<bool> {
             end: *end,
         })?;
     }
-    Ok(table.put(
-        task,
-        Row {
-            processor,
-            parts: &parts,
-        },
-    ))
+    let row = Row {
+        processor,
+        parts: &parts,
+    };
+    Ok(table.put(task, row).is_ok())
 }
 
 /// The table with the rows of a case, or nothing where a row has not lawful shape.

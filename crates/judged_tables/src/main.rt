@@ -11,7 +11,7 @@ use dependency_rule::dependencies::Dependencies;
 use outcome::Outcome;
 use overlap_rule::overlaps::Overlaps;
 use overlap_rule::search::overlap;
-use piles::confinement::Confinement;
+use piles::confinement::{Confinement, Inside};
 use piles::fault::WaiverFull;
 use piles::pair::Pair;
 use piles::waiver::Waiver;
@@ -124,7 +124,7 @@ fn piled<R: Rule + Drop, F: Fn(u32) -> R>(
 fn confined(partition: u32) -> Confinement<Links> {
     Confinement {
         rule: LINKS,
-        partition,
+        scope: Inside { partition },
     }
 }
 

@@ -1,4 +1,2 @@
-pub mod Alike
+pub mod Inside
 pub mod Paired
-pub mod Waived
-pub mod Confined

@@ -3,6 +3,7 @@ use Rattle.std.specs.List.{AllByRecursion}
 use Rattle.problem.specs.Limits.{Model}
 use Rattle.problem.specs.Lookup.{task_at}
 use Rattle.rules.specs.Meaning.{Meaning}
+use Rattle.piles.specs.Scoped.{scoped}
 
 -- all these tasks are in the partition
 abbrev pub AllIn : ℕ → Model → List ℕ → Type 0
@@ -10,9 +11,4 @@ AllIn partition p tasks = AllByRecursion (λ t. (task_at p t).partition ≡ part
 
 -- every place is kept unless all its named tasks are in the partition; all else is the lower rule's
 abbrev pub confined : ℕ → Meaning → Meaning
-confined partition m = record {
-  count = m.count;
-  label = m.label;
-  tasks = m.tasks;
-  kept = λ p rows k n. AllIn partition p (m.tasks p k) → m.kept p rows k n;
-}
+confined partition m = scoped (λ p _ tasks. AllIn partition p tasks) m

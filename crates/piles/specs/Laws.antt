@@ -3,10 +3,10 @@
 use Rattle.std.specs.Prelude.{ℕ, ◌-◌, List}
 use Rattle.std.proofs.Common.{inl, inr, arith}
 use Rattle.std.proofs.lemmas.Bool.{cases_lt, lt-ltb, le-ltb}
+use Rattle.problem.specs.Limits.{Model}
 use Rattle.rules.specs.Meaning.{Meaning, Reach, Absence}
-use Rattle.piles.specs.Confinement.{confined}
 use Rattle.piles.specs.Pair.{paired}
-use Rattle.piles.specs.Waiver.{waived}
+use Rattle.piles.specs.Scoped.{scoped}
 
 module _ (a b : Meaning) where
   -- a pair has reach if both its rules have
@@ -25,18 +25,11 @@ module _ (a b : Meaning) where
         | inr h ↦ rw (le-ltb k (a.count p) h) (nb p rows (k - a.count p) n t s (omega arith))
       ]
 
--- a waiver has reach if the rule below has
-pub waived_reach : (places : List ℕ) (m : Meaning) → Reach m → Reach (waived places m)
-waived_reach places m reach p a b k n sa sb below same kept unlisted = reach p a b k n sa sb below same (kept unlisted)
+module _ (Covers : Model → ℕ → List ℕ → Type 0) (m : Meaning) where
+  -- a rule in a scope has reach if the lower rule has
+  pub scoped_reach : Reach m → Reach (scoped Covers m)
+  scoped_reach reach p a b k n sa sb below same kept covered = reach p a b k n sa sb below same (kept covered)
 
--- a waiver has absence if the rule below has
-pub waived_absence : (places : List ℕ) (m : Meaning) → Absence m → Absence (waived places m)
-waived_absence places m absence p rows k n t s below has none unlisted = absence p rows k n t s below has none
-
--- a confinement has reach if the rule below has
-pub confined_reach : (partition : ℕ) (m : Meaning) → Reach m → Reach (confined partition m)
-confined_reach partition m reach p a b k n sa sb below same kept inside = reach p a b k n sa sb below same (kept inside)
-
--- a confinement has absence if the rule below has
-pub confined_absence : (partition : ℕ) (m : Meaning) → Absence m → Absence (confined partition m)
-confined_absence partition m absence p rows k n t s below has none inside = absence p rows k n t s below has none
+  -- a rule in a scope has absence if the lower rule has
+  pub scoped_absence : Absence m → Absence (scoped Covers m)
+  scoped_absence absence p rows k n t s below has none covered = absence p rows k n t s below has none

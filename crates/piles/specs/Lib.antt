@@ -1,4 +1,5 @@
 pub mod Pair
+pub mod Scoped
 pub mod Waiver
 pub mod Waive
 pub mod Confinement

@@ -1,7 +1,8 @@
-use Rattle.std.specs.Prelude.{◌≡◌, ℕ, ◌+◌, ◌-◌, ◌<◌, ◌≤◌, min, cond, nat_lt}
+use Rattle.std.specs.Prelude.{◌≡◌, ℕ, ◌+◌, ◌-◌, ◌<◌, ◌≤◌, min, cond, nat_lt, Some, None, Option}
+use Rattle.problem.specs.Limits.{Model}
 use Rattle.rules.specs.Meaning.{Meaning}
 use Rattle.piles.specs.declared.pair.Side.{Side}
-use Rattle.piles.specs.declared.pair.Side.TheVariants.{First, Second, Past}
+use Rattle.piles.specs.declared.pair.Side.TheVariants.{First, Second}
 
 -- the places of the first rule, then those of the second, cut off at 65,537
 abbrev pub paired : Meaning → Meaning → Meaning
@@ -12,8 +13,8 @@ paired a b = record {
   kept = λ p rows k n. cond (nat_lt k (a.count p)) (a.kept p rows k n) (b.kept p rows (k - a.count p) n);
 }
 
--- where place `k` stands, if the first rule counts `first` and the pair `both`
-abbrev pub SideOf : ℕ → ℕ → ℕ → Side → Type 0
-SideOf first both k (First j) = (k < both) × (k < first) × (j ≡ k)
-SideOf first both k (Second j) = (k < both) × (first ≤ k) × (j ≡ k - first)
-SideOf first both k Past = both ≤ k
+-- where place `k` of the pair stands: at a place of the first rule or of the second, or nowhere if it is at or above the count
+abbrev pub SideOf : Meaning → Meaning → Model → ℕ → Option Side → Type 0
+SideOf a b p k (Some (First j)) = (k < (paired a b).count p) × (k < a.count p) × (j ≡ k)
+SideOf a b p k (Some (Second j)) = (k < (paired a b).count p) × (a.count p ≤ k) × (j ≡ k - a.count p)
+SideOf a b p k None = (paired a b).count p ≤ k

@@ -4,6 +4,6 @@
 pub mod confinement;
 pub mod fault;
 pub mod pair;
-pub mod waive;
+pub mod scope;
+pub mod scoped;
 pub mod waiver;
-pub mod waiver_rule;

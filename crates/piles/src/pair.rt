@@ -1,5 +1,6 @@
 ghost use Rattle.piles.specs.Pair.{SideOf, paired};
 ghost use Rattle.piles.specs.Laws.{paired_reach, paired_absence};
+ghost use Rattle.problem.specs.Model.{model};
 
 use problem::problem::Problem;
 use rules::judgement::Judgement;
@@ -14,25 +15,25 @@ pub struct Pair<A, B> {
     pub second: B,
 }
 
-/// Where a place of a pair stands: at a place of its first rule or of its second, or past the last.
+/// A place of a pair, as the place of its first rule or of its second that it is.
 #[derive(Clone, Copy)]
 enum Side {
     First(u32),
     Second(u32),
-    Past,
 }
 
-impl Side {
-    /// Where a place stands, if the first rule counts `first` and the pair counts `both`.
-    fn of(first: u32, both: u32, place: u32) -> Side
-        ensures { SideOf first both place result }
+impl<A: Rule, B: Rule> Pair<A, B> {
+    /// Where a place stands, if it is below the count.
+    fn side(&self, problem: &Problem, place: u32) -> Option<Side>
+        ensures { SideOf (A.Rule.meaning self.now.first) (B.Rule.meaning self.now.second) (model problem.now) place result }
     {
-        if place >= both {
-            Side::Past
+        let first = self.first.count(problem);
+        if place >= self.count(problem) {
+            None
         } else if place < first {
-            Side::First(place)
+            Some(Side::First(place))
         } else {
-            Side::Second(place - first)
+            Some(Side::Second(place - first))
         }
     }
 }
@@ -50,29 +51,26 @@ impl<A: Rule, B: Rule> Rule for Pair<A, B> {
     }
 
     fn label(&self, problem: &Problem, place: u32) -> Label {
-        let first = self.first.count(problem);
-        match Side::of(first, self.count(problem), place) {
-            Side::First(place) => self.first.label(problem, place),
-            Side::Second(place) => self.second.label(problem, place),
-            Side::Past => Label { rule: 0, place },
+        match self.side(problem, place) {
+            Some(Side::First(place)) => self.first.label(problem, place),
+            Some(Side::Second(place)) => self.second.label(problem, place),
+            None => Label { rule: 0, place },
         }
     }
 
     fn tasks(&self, problem: &Problem, place: u32) -> [u32; 2] {
-        let first = self.first.count(problem);
-        match Side::of(first, self.count(problem), place) {
-            Side::First(place) => self.first.tasks(problem, place),
-            Side::Second(place) => self.second.tasks(problem, place),
-            Side::Past => [0, 0],
+        match self.side(problem, place) {
+            Some(Side::First(place)) => self.first.tasks(problem, place),
+            Some(Side::Second(place)) => self.second.tasks(problem, place),
+            None => [0, 0],
         }
     }
 
     fn judge(&self, table: &Table, place: u32) -> Judgement {
-        let first = self.first.count(&table.problem);
-        match Side::of(first, self.count(&table.problem), place) {
-            Side::First(place) => self.first.judge(table, place),
-            Side::Second(place) => self.second.judge(table, place),
-            Side::Past => Judgement::Kept,
+        match self.side(&table.problem, place) {
+            Some(Side::First(place)) => self.first.judge(table, place),
+            Some(Side::Second(place)) => self.second.judge(table, place),
+            None => Judgement::Kept,
         }
     }
 }

@@ -1,10 +1,69 @@
-ghost use Rattle.std.specs.Prelude.{◌≤◌};
+ghost use Rattle.piles.specs.Waive.{Waives};
+ghost use Rattle.piles.specs.Waiver.{listed};
+ghost use Rattle.std.specs.Prelude.{◌≡◌, ◌↔◌, IsTrue, []};
+ghost use Rattle.std.specs.List.{ContainsAt as Has};
 
-/// A rule of which up to 16 places are waived: whoever holds a waiver knows that it lists no more.
+use crate::fault::WaiverFull;
+use crate::scope::Scope;
+use crate::scoped::Scoped;
+use arrayvec::ArrayVec;
+use problem::problem::Problem;
+
+/// A rule of which up to 16 places are waived.
+pub type Waiver<R> = Scoped<R, Unlisted>;
+
+/// The places that are not listed.
 #[derive(Drop)]
-pub struct Waiver<R> {
-    pub rule: R,
-    pub(crate) places: [u32; 16],
-    pub(crate) count: usize,
-    ghost few: { count ≤ 16 },
+pub struct Unlisted {
+    pub(crate) places: ArrayVec<u32, 16>,
+}
+
+impl Unlisted {
+    /// The place is listed.
+    fn lists(&self, place: u32) -> bool
+        ensures { IsTrue result ↔ Has self.now.places.items place }
+    {
+        self.places.contains(&place)
+    }
+}
+
+impl Scope for Unlisted {
+    ghost Covers = { λ s _ place _. Has s.places.items place → ⊥ };
+
+    fn covers(&self, _problem: &Problem, place: u32, _tasks: &[u32; 2]) -> bool {
+        !self.lists(place)
+    }
+}
+
+impl<R> Waiver<R> {
+    /// The rule with none of its places waived.
+    pub fn new(rule: R) -> Waiver<R>
+        ensures rule { result.rule ≡ rule }
+        ensures places { listed result ≡ [] }
+    {
+        let places = ArrayVec::new();
+        Scoped {
+            rule,
+            scope: Unlisted { places },
+        }
+    }
+
+    /// The place is listed.
+    pub fn lists(&self, place: u32) -> bool
+        ensures { IsTrue result ↔ Has (listed self.now) place }
+    {
+        self.scope.lists(place)
+    }
+
+    /// Adds a place's number to the list, if it is not there yet.
+    pub fn waive(&mut self, place: u32) -> Result<(), WaiverFull>
+        ensures places { Waives (listed self.old) place (listed self.new) result }
+        ensures rule { self.new.rule ≡ self.old.rule }
+    {
+        if self.lists(place) {
+            return Ok(());
+        }
+        let places = &mut self.scope.places;
+        places.try_push(place).map_err(|_| WaiverFull { place })
+    }
 }

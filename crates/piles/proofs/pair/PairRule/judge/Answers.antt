@@ -1,18 +1,16 @@
-use Rattle.std.proofs.Common.{arith}
 use Rattle.table.specs.Table.{problem_of, rows_of}
-use Rattle.piles.proofs.Paired.{judged_first, judged_second}
+use Rattle.piles.specs.declared.pair.Side.TheVariants.{First, Second}
+use Rattle.piles.proofs.Paired.{judged_side}
 use Rattle.piles.proofs.pair.PairRule.judge.Goals as goal
 
-pub returns-in-First : goal.returns-in-First
-returns-in-First g c =
+pub returns-in-Some-First : goal.returns-in-Some-First
+returns-in-Some-First g c =
     let s = c.args.self.now in
     let t = c.args.table.now in
-    let side = c.in-First.ensures in
-    judged_first (g.A.Rule.meaning s.first) (g.B.Rule.meaning s.second) (problem_of t) (rows_of t) c.args.place (omega arith) (omega arith) c.judge.result (rw side.2 at c.judge.ensures)
+    judged_side (g.A.Rule.meaning s.first) (g.B.Rule.meaning s.second) (problem_of t) (rows_of t) c.args.place (First c.in-Some-First.place) (rw c.in-Some-First.field-0-is at c.in-Some-First.ensures) c.judge.result c.judge.ensures
 
-pub returns-in-Second : goal.returns-in-Second
-returns-in-Second g c =
+pub returns-in-Some-Second : goal.returns-in-Some-Second
+returns-in-Some-Second g c =
     let s = c.args.self.now in
     let t = c.args.table.now in
-    let side = c.in-Second.ensures in
-    judged_second (g.A.Rule.meaning s.first) (g.B.Rule.meaning s.second) (problem_of t) (rows_of t) c.args.place (omega arith) (omega arith) c.judge-in-Second.result (rw (side.2, c.count-first.ensures.value) at c.judge-in-Second.ensures)
+    judged_side (g.A.Rule.meaning s.first) (g.B.Rule.meaning s.second) (problem_of t) (rows_of t) c.args.place (Second c.in-Some-Second.place) (rw c.in-Some-Second.field-0-is at c.in-Some-Second.ensures) c.judge-in-Some-Second.result c.judge-in-Some-Second.ensures

@@ -1,12 +1,10 @@
 -- The laws of the rule on dependencies.
 -- Nothing here has to be believed: these are proofs, and they stand here since an implementation can name no lemma of its own crate that stands elsewhere.
-use Rattle.std.specs.Prelude.{◌≡◌, ℕ, [], ◌∷◌, Some}
-use Rattle.std.proofs.Common.{inl, inr, subst, ◌∙◌}
+use Rattle.std.specs.Prelude.{[], ◌∷◌}
+use Rattle.std.proofs.Common.{inl, inr, ◌∙◌}
 use Rattle.problem.specs.Lookup.{dependency_at}
-use Rattle.table.specs.Rows.{row_at}
 use Rattle.rules.specs.Meaning.{Reach, Absence}
 use Rattle.rules.proofs.Named.{has_first, has_later, has_two}
-use Rattle.rules.proofs.OfEachTask.{none_some}
 use Rattle.dependency_rule.specs.Dependencies.{dependency_rule}
 
 pub dependencies_reach : Reach dependency_rule
@@ -17,7 +15,4 @@ dependencies_reach p a b d n sa sb h same kept from to ef et =
 
 pub dependencies_absence : Absence dependency_rule
 dependencies_absence p rows d n t s h has none from to ef et =
-    elim (has_two (dependency_at p d).source (dependency_at p d).destination t has) [
-      | inl e ↦ absurd (none_some (row_at rows t) from none (subst (λ (z : ℕ). row_at rows z ≡ Some from) e ef))
-      | inr e ↦ absurd (none_some (row_at rows t) to none (subst (λ (z : ℕ). row_at rows z ≡ Some to) e et))
-    ]
+    elim (has_two (dependency_at p d).source (dependency_at p d).destination t has) [ inl e ↦ absurd (cc) | inr e ↦ absurd (cc) ]

@@ -1,2 +1,3 @@
 pub mod Dependencies
+pub mod Link
 pub mod Laws

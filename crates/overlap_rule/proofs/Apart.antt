@@ -1,7 +1,7 @@
 -- Two rows are apart in every frame if they are clear of each other at the distances from -3 to 3.
 use Rattle.std.specs.Prelude.{◌≡◌, ℕ, ◌+◌, ◌-◌, ◌*◌, ◌<◌, ◌≤◌, true, false, length, ℤ, pos, negsuc, ◌+ℤ◌, ◌-ℤ◌, ◌≤ℤ◌, ◌<ℤ◌, int_le, slice_index_or}
 use Rattle.std.proofs.Common.{inl, inr, sym, subst, to_z, of_z, add-mul, mul-le-mul_right, arith}
-use Rattle.std.specs.Int.{w64}
+use Rattle.std.specs.Int.{w8}
 use Rattle.std.proofs.ByRecursion.{has_get_or}
 use Rattle.std.proofs.lemmas.Int.{ints, by_lt_z}
 use Rattle.std.proofs.lemmas.Bool.{cases_lt}
@@ -24,7 +24,7 @@ test_gt d e t = grind (arith, ints)
 
 -- the distance after the last that was looked at
 pub next_distance : (d : ℤ) → negsuc 2 ≤ℤ d → d ≤ℤ pos 3 →
-    (negsuc 2 ≤ℤ to_z w64 (of_z w64 (d +ℤ pos 1))) × (to_z w64 (of_z w64 (d +ℤ pos 1)) ≤ℤ pos 4) × (to_z w64 (of_z w64 (d +ℤ pos 1)) ≡ d +ℤ pos 1)
+    (negsuc 2 ≤ℤ to_z w8 (of_z w8 (d +ℤ pos 1))) × (to_z w8 (of_z w8 (d +ℤ pos 1)) ≤ℤ pos 4) × (to_z w8 (of_z w8 (d +ℤ pos 1)) ≡ d +ℤ pos 1)
 next_distance d low high = (omega (arith, ints), omega (arith, ints), omega (arith, ints))
 
 -- a distance up to 3 is below one past 3

@@ -1,4 +1,3 @@
-mod Spans
 mod Distances
 mod Apart
 mod OfOverlaps

@@ -1,11 +1,9 @@
 -- The laws of the rule on overlaps.
 -- Nothing here has to be believed: these are proofs, and they stand here since an implementation can name no lemma of its own crate that stands elsewhere.
-use Rattle.std.specs.Prelude.{◌≡◌, ℕ, ◌/◌, ◌%◌, [], ◌∷◌, Some}
-use Rattle.std.proofs.Common.{inl, inr, subst, ◌∙◌}
-use Rattle.table.specs.Rows.{row_at}
+use Rattle.std.specs.Prelude.{◌/◌, ◌%◌, [], ◌∷◌}
+use Rattle.std.proofs.Common.{inl, inr, ◌∙◌}
 use Rattle.rules.specs.Meaning.{Reach, Absence}
 use Rattle.rules.proofs.Named.{has_first, has_later, has_two}
-use Rattle.rules.proofs.OfEachTask.{none_some}
 use Rattle.overlap_rule.specs.Overlaps.{overlap_rule}
 
 pub overlaps_reach : Reach overlap_rule
@@ -15,7 +13,4 @@ overlaps_reach p a b k n sa sb h same kept below x y ex ey =
 
 pub overlaps_absence : Absence overlap_rule
 overlaps_absence p rows k n t s h has none below x y ex ey =
-    elim (has_two (k / p.dimensions.tasks) (k % p.dimensions.tasks) t has) [
-      | inl e ↦ absurd (none_some (row_at rows t) x none (subst (λ (z : ℕ). row_at rows z ≡ Some x) e ex))
-      | inr e ↦ absurd (none_some (row_at rows t) y none (subst (λ (z : ℕ). row_at rows z ≡ Some y) e ey))
-    ]
+    elim (has_two (k / p.dimensions.tasks) (k % p.dimensions.tasks) t has) [ inl e ↦ absurd (cc) | inr e ↦ absurd (cc) ]

@@ -42,10 +42,8 @@ impl Rule for Overlaps {
     }
 
     fn judge(&self, table: &Table, place: u32) -> Judgement {
-        let tasks = table.problem.dimensions.tasks;
-        let i = place / tasks;
-        let j = place % tasks;
-        if place >= self.count(&table.problem) || i >= j {
+        let [i, j] = self.tasks(&table.problem, place);
+        if i >= j {
             return Judgement::Kept;
         }
         match overlap(table, i, j) {

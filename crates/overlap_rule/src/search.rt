@@ -1,4 +1,4 @@
-ghost use Rattle.std.specs.Prelude.{◌≡◌, ℕ, ◌<◌, ◌≤◌, pos, negsuc, ◌*ℤ◌, ◌≤ℤ◌, Decides};
+ghost use Rattle.std.specs.Prelude.{ℕ, ◌↔◌, IsTrue};
 ghost use Rattle.overlap_rule.specs.Search.{AtDistance, FoundBetween, FoundOverlap, ShareTick};
 ghost use Rattle.problem.specs.Model.{model};
 ghost use Rattle.table.specs.Row.{row_model};
@@ -12,30 +12,14 @@ use table::part::Part;
 use table::row::Row;
 use table::table::Table;
 
-/// So many frames, in ticks.
-fn ticks_of(frame: u32, distance: i64) -> i64
-    requires frame { frame ≤ 1000000 }
-    requires low { negsuc 2 ≤ℤ distance }
-    requires high { distance ≤ℤ pos 3 }
-    ensures value { result ≡ distance *ℤ pos frame }
-    ensures low { negsuc 2999999 ≤ℤ result }
-    ensures high { result ≤ℤ pos 3000000 }
-{
-    distance * frame as i64
-}
-
 /// The parts share a tick, the second in the instance at the distance from the first's.
-fn share_tick(frame: u32, first: &Part, second: &Part, distance: i64) -> bool
-    requires frame { frame ≤ 1000000 }
-    requires low { negsuc 2 ≤ℤ distance }
-    requires high { distance ≤ℤ pos 3 }
-    requires first { (first.now.begin < first.now.end) × (first.now.end ≤ 4000000) }
-    requires second { (second.now.begin < second.now.end) × (second.now.end ≤ 4000000) }
-    ensures { (n m : ℕ) → AtDistance n m distance → Decides result (ShareTick frame first.now n second.now m) }
+fn share_tick(frame: u32, first: Part, second: Part, distance: i8) -> bool
+    ensures { (n m : ℕ) → AtDistance n m distance → (IsTrue result ↔ ShareTick frame first n second m) }
 {
-    let shift = ticks_of(frame, distance);
-    (first.begin as i64) < second.end as i64 + shift
-        && second.begin as i64 + shift < first.end as i64
+    let shift = i64::from(distance) * i64::from(frame);
+    let begin = i64::from(first.begin).max(i64::from(second.begin) + shift);
+    let end = i64::from(first.end).min(i64::from(second.end) + shift);
+    begin < end
 }
 
 /// The first overlap without leave of the rows of `i` and `j`, by distance, then by the parts.
@@ -45,17 +29,15 @@ fn between(problem: &Problem, i: u32, j: u32, a: &Row<'_>, b: &Row<'_>) -> Optio
     ensures { FoundBetween (model problem.now) i j (row_model a.now) (row_model b.now) result }
 {
     let frame = problem.dimensions.frame;
-    let ours = a.parts;
-    let theirs = b.parts;
     'search: {
         for distance in -3..=3 {
-            for (first, part) in ours.iter().enumerate() {
-                for (second, other) in theirs.iter().enumerate() {
-                    if share_tick(frame, part, other, distance)
+            for (first, part) in a.parts.iter().enumerate() {
+                for (second, other) in b.parts.iter().enumerate() {
+                    if share_tick(frame, *part, *other, distance)
                         && !never_both(problem, i, j, distance)
                     {
                         break 'search Some(Overlap {
-                            distance,
+                            distance: i64::from(distance),
                             first,
                             second,
                         });
@@ -71,12 +53,8 @@ fn between(problem: &Problem, i: u32, j: u32, a: &Row<'_>, b: &Row<'_>) -> Optio
 pub fn overlap(table: &Table, i: u32, j: u32) -> Option<Overlap>
     ensures { FoundOverlap (problem_of table.now) i j (rows_of table.now) result }
 {
-    let Some(a) = table.row(i) else {
-        return None;
-    };
-    let Some(b) = table.row(j) else {
-        return None;
-    };
+    let a = table.row(i)?;
+    let b = table.row(j)?;
     if a.processor != b.processor {
         return None;
     }

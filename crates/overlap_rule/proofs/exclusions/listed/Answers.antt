@@ -1,23 +1,21 @@
-use Rattle.std.proofs.Common.{◌≡◌, List, get_or, sym, refl, subst, arith}
-use Rattle.std.proofs.ByRecursion.{All-from_get_or, all-has, has_get_or}
-use Rattle.std.proofs.lemmas.Bool.{false≢true}
+use Rattle.std.proofs.Common.{◌≡◌, Bool, eqb, ◌&&◌, Decides, List, refl, subst}
+use Rattle.std.proofs.lemmas.Bool.Decides.{Decides-and, Decides-eqb}
+use Rattle.std.proofs.lemmas.List.Elements.{contains_decides}
 use Rattle.std.specs.List.{ContainsAt as Has}
 use Rattle.problem.specs.declared.exclusion.Exclusion.{Exclusion}
-use Rattle.problem.specs.Lookup.{no_exclusion}
 use Rattle.overlap_rule.proofs.exclusions.listed.Goals as goal
 
-pub returns-then-exclusion-distance : goal.returns-then-exclusion-distance
-returns-then-exclusion-distance c =
-    let list = c.as_slice-exclusions.result.now in
-    let i = c.loop-exclusion.exclusion-index in
-    let at = subst (λ (es : List Exclusion). Has es (get_or list i no_exclusion)) c.as_slice-exclusions.ensures.value (has_get_or list i no_exclusion c.loop-exclusion-test.true) in
-    (λ _. (get_or list i no_exclusion, at, c.if-exclusion-first.true, c.if-exclusion-second.true, c.if-exclusion-distance.true), λ _. refl)
+-- two exclusions are equal if all their fields are
+abbrev equal : Exclusion → Exclusion → Bool
+equal a b = eqb a.first b.first && (eqb a.second b.second && eqb a.distance b.distance)
+
+same : (a b : Exclusion) → Decides (equal a b) (a ≡ b)
+same a b =
+    let d = Decides-and _ _ (Decides-eqb a.first b.first) (Decides-and _ _ (Decides-eqb a.second b.second) (Decides-eqb a.distance b.distance)) in
+    (λ t. let e = d.0 t in λ i. record { first = e.0 i; second = e.1.0 i; distance = e.1.1 i }, λ e. d.1 (λ i. (e i).first, (λ i. (e i).second, λ i. (e i).distance)))
 
 pub returns : goal.returns
 returns c =
-    let list = c.as_slice-exclusions.result.now in
-    let Other : Exclusion → Type 0 = λ e. (e.first ≡ c.args.first) → (e.second ≡ c.args.second) → (e.distance ≡ c.args.distance) → ⊥ in
-    let others = All-from_get_or Other list no_exclusion (λ k h. c.loop-exclusion.invariant k (omega arith)) in (
-      λ e. absurd (false≢true e),
-      λ l. absurd (all-has Other list l.0 others (subst (λ (es : List Exclusion). Has es l.0) (sym c.as_slice-exclusions.ensures.value) l.1) l.2 l.3 l.4),
-    )
+    let one : Exclusion = record { first = c.args.first; second = c.args.second; distance = c.args.distance } in
+    let d = subst (λ (es : List Exclusion). Decides c.contains.result (Has es one)) c.deref.ensures.value (contains_decides equal same c.deref.result.now one c.contains.result c.contains.ensures.cases) in
+    (λ t. (one, d.0 t, refl, refl, refl), λ l. d.1 (subst (λ (e : Exclusion). Has c.args.problem.now.exclusions.items e) (λ i. record { first = l.2 i; second = l.3 i; distance = l.4 i }) l.1))

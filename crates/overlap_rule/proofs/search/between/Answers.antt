@@ -1,28 +1,13 @@
-use Rattle.std.proofs.Common.{ℕ, ◌<◌, length, ℤ, arith, below_more}
+use Rattle.std.proofs.Common.{◌≡◌, ℕ, ◌<◌, length, ℤ, w64, to_z, of_z, arith, below_more}
+use Rattle.std.proofs.lemmas.Int.{ints}
 use Rattle.std.proofs.lemmas.Bool.{both_ways}
 use Rattle.std.proofs.lemmas.Bool.Decides.{not_from_Decides}
 use Rattle.problem.specs.Model.{model}
-use Rattle.problem.proofs.Known.{knows}
 use Rattle.table.specs.Row.{row_model}
-use Rattle.table.proofs.Spread.{ends_before}
 use Rattle.overlap_rule.specs.Search.{Clear}
 use Rattle.overlap_rule.proofs.Apart.{below_last, below_more_ℤ, clear_apart, earlier_clear, next_distance, test_gt, test_le}
 use Rattle.overlap_rule.proofs.search.between.Goals as goal
 use Rattle.overlap_rule.proofs.search.between.Goals.{else-share_tick-via-then-share_tick+else-not-never_both, else-share_tick-via-else-share_tick}
-
-pub share_tick-requires : goal.share_tick-requires
-share_tick-requires c =
-    let few = (knows c.args.problem.now).dimensions in
-    let d = c.args.problem.now.dimensions in
-    let x = c.loop-first.first in let y = c.loop-second.second in
-    let a = c.requires.a in let b = c.requires.b in
-    record {
-      frame = few.0.1;
-      low = c.loop-distance.invariant.0;
-      high = test_le _ _ c.loop-distance-test.true;
-      first = (a.turns.spans x c.loop-first-test.true, omega (arith, ends_before d (row_model c.args.a.now) a x c.loop-first-test.true, a.starts));
-      second = (b.turns.spans y c.loop-second-test.true, omega (arith, ends_before d (row_model c.args.b.now) b y c.loop-second-test.true, b.starts));
-    }
 
 pub loop-second-preserved : goal.loop-second-preserved
 loop-second-preserved c =
@@ -52,7 +37,8 @@ returns-after-loop-distance c =
 
 pub returns-then-not-never_both : goal.returns-then-not-never_both
 returns-then-not-never_both c =
-    record {
+    let wide : to_z w64 (of_z w64 c.from.result) ≡ c.from.result = omega (arith, ints) in
+    rw (wide, c.from.ensures) (record {
       low = c.loop-distance.invariant.0;
       high = test_le _ _ c.loop-distance-test.true;
       first = c.loop-first-test.true;
@@ -60,4 +46,4 @@ returns-then-not-never_both c =
       shared = λ n m e. (c.share_tick.ensures n m e).0 c.if-share_tick.true;
       unexcused = λ n m e. not_from_Decides c.never_both.result (c.never_both.ensures n m e) c.if-not-never_both.true;
       before = earlier_clear (model c.args.problem.now) c.args.i c.args.j (row_model c.args.a.now) (row_model c.args.b.now) _ c.loop-distance.invariant.2 c.loop-first.invariant c.loop-second.invariant;
-    }
+    })

@@ -8,14 +8,14 @@ pub between-requires : goal.between-requires
 between-requires c =
     let s = c.row.ensures.shaped in
     record {
-      a = s.shapes c.args.i (row_model c.in-Some.a) (sym c.in-Some.ensures.value);
-      b = s.shapes c.args.j (row_model c.in-Some-row.b) (sym c.in-Some-row.ensures.value);
+      a = s.shapes c.args.i (row_model c.in_ok-a.a) (sym c.in_ok-a.ensures.value);
+      b = s.shapes c.args.j (row_model c.in_ok-b.b) (sym c.in_ok-b.ensures.value);
     }
 
 pub returns : goal.returns
 returns c =
     let s = c.row.ensures.shaped in
-    let a = row_model c.in-Some.a in let b = row_model c.in-Some-row.b in
-    let ea = c.in-Some.ensures.value in let eb = c.in-Some-row.ensures.value in
+    let a = row_model c.in_ok-a.a in let b = row_model c.in_ok-b.b in
+    let ea = c.in_ok-a.ensures.value in let eb = c.in_ok-b.ensures.value in
     found_overlap (problem_of c.args.table.now) c.args.i c.args.j (rows_of c.args.table.now) a b (s.shapes c.args.i a (sym ea)) (s.shapes c.args.j b (sym eb))
     ea eb c.if-a-b.false c.between.result c.between.ensures

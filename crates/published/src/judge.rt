@@ -13,8 +13,5 @@ pub fn first_broken_label(table: &Table) -> Option<Label>
     ensures found { FoundLabel (problem_of table.now) (rows_of table.now) result }
     ensures exactly { LawfulExactly (problem_of table.now) }
 {
-    let Some(place) = first_broken(&PUBLISHED, table) else {
-        return None;
-    };
-    Some(PUBLISHED.label(&table.problem, place))
+    first_broken(&PUBLISHED, table).map(|place| PUBLISHED.label(&table.problem, place))
 }

@@ -1,4 +1,4 @@
-ghost use Rattle.std.specs.Prelude.{ℕ, ◌↔◌, IsTrue};
+ghost use Rattle.std.specs.Prelude.{◌≡◌, ℕ, ◌^◌, ◌≤◌, pos, ◌*ℤ◌, nat_abs, ◌↔◌, IsTrue};
 ghost use Rattle.overlap_rule.specs.Search.{AtDistance, FoundBetween, FoundOverlap, ShareTick};
 ghost use Rattle.problem.specs.Model.{model};
 ghost use Rattle.table.specs.Row.{row_model};
@@ -12,11 +12,19 @@ use table::part::Part;
 use table::row::Row;
 use table::table::Table;
 
+/// So many frames, in ticks.
+fn ticks_of(frame: u32, distance: i8) -> i64
+    ensures value { result ≡ distance *ℤ pos frame }
+    ensures bound { nat_abs result ≤ 2 ^ 39 }
+{
+    i64::from(distance) * i64::from(frame)
+}
+
 /// The parts share a tick, the second in the instance at the distance from the first's.
 fn share_tick(frame: u32, first: Part, second: Part, distance: i8) -> bool
     ensures { (n m : ℕ) → AtDistance n m distance → (IsTrue result ↔ ShareTick frame first n second m) }
 {
-    let shift = i64::from(distance) * i64::from(frame);
+    let shift = ticks_of(frame, distance);
     let begin = i64::from(first.begin).max(i64::from(second.begin) + shift);
     let end = i64::from(first.end).min(i64::from(second.end) + shift);
     begin < end

@@ -1,18 +1,20 @@
 -- Gathering the records one by one gives the lists that the file states.
-use Rattle.std.proofs.Common.{◌≡◌, ℕ, ◌+◌, ◌-◌, ◌<◌, ◌≤◌, min, true, List, [], ◌∷◌, ◌++◌, map, length, Some, None, sym, ap, ◌∙◌, arith}
+use Rattle.std.proofs.Common.{◌≡◌, ℕ, ◌+◌, ◌-◌, ◌<◌, ◌≤◌, min, List, [], ◌∷◌, ◌++◌, map, length, Some, None, sym, ap, ◌∙◌, arith, Bor}
 use Rattle.std.proofs.lemmas.List.FromFn.{map-range_with_len_more}
 use Rattle.std.specs.List.{range_with_len}
 use Rattle.problem.specs.Limits.{Model}
 use Rattle.problem_file.proofs.Places.{Inside, inside}
 use Rattle.problem_file.proofs.Shows.{there}
-use Rattle.problem_file.proofs.Standing.{Standing, standing_more, standing_end}
+use Rattle.problem_file.proofs.Standing.{Standing, standing_at, standing_shows, standing_more, standing_end}
 use Rattle.problem_file.specs.declared.counts.Counts.{Counts}
 use Rattle.problem_file.specs.declared.layout.Section.{Section}
 use Rattle.problem_file.specs.declared.layout.Section.TheVariants.{Tasks, Windows, Dependencies, Exclusions}
+use Rattle.problem_file.specs.declared.header.Header.{Header}
 use Rattle.problem_file.specs.declared.reader.Reader.{Reader}
-use Rattle.problem_file.specs.Reader.{Stepped}
+use Rattle.problem_file.specs.declared.record.Record.{Record}
+use Rattle.problem_file.specs.Reader.{standing, Reads}
 use Rattle.problem_file.specs.Layout.{count, first, total, section_of, file_end, record_bytes}
-use Rattle.problem_file.specs.Records.{Shown, reading, record_in}
+use Rattle.problem_file.specs.Records.{item_of, shown}
 use Rattle.opening.specs.Opened.{task_in, window_in, dependency_in, exclusion_in, stated}
 use Rattle.opening.specs.Statement.{added, bare}
 
@@ -43,7 +45,7 @@ not_yet f c i s lt = ap (λ n. map f (range_with_len (first c s) n)) (omega arit
 past : {X : Type 0} (f : ℕ → X) (c : Counts) (i : ℕ) (s : Section) → first c s + count c s ≤ i → map f (before c (i + 1) s) ≡ map f (before c i s)
 past f c i s le = ap (λ n. map f (range_with_len (first c s) n)) (omega arith)
 
-partly_more : (c : Counts) (file : List ℕ) (i : ℕ) (s : Section) → Inside c s i → added (partly c file i) (reading c.dimensions.processors s (record_bytes c file s i)) ≡ partly c file (i + 1)
+partly_more : (c : Counts) (file : List ℕ) (i : ℕ) (s : Section) → Inside c s i → added (partly c file i) (item_of c.dimensions.processors s (record_bytes c file s i)) ≡ partly c file (i + 1)
 unfolding partly
 partly_more c file i Tasks h =
     let t = gains (task_in c file) c i Tasks h in
@@ -98,23 +100,25 @@ pub record Gathered (c : Counts) (file : List ℕ) (r : Reader) (m : Model) : Ty
   pub stands : Standing c file r
   pub has : m ≡ partly c file r.position
 
-pub gathered_none : (c : Counts) (file : List ℕ) (r : Reader) (m : Model) → Standing c file r → r.position ≡ 0 → m ≡ bare c.dimensions → Gathered c file r m
-gathered_none c file r m stands zero none =
-    record { stands = stands; has = none ∙ partly_none c file ∙ ap (partly c file) (sym zero) }
-
-pub gathered_more : (c : Counts) (file : List ℕ) (r t : Reader) (m n : Model) (x : Shown) → Gathered c file r m → record_in c file r.position ≡ Some x → Stepped true r t → n ≡ added m x → Gathered c file t n
-gathered_more c file r t m n x g shows step more =
-    let at = there c file r.position (section_of c r.position) x shows in
-    let h = inside c r.position at.section at.stands in
+pub gathered_none : (file : Bor (List ℕ)) (header : Header) (r : Reader) (m : Model) → r ≡ standing file header 0 → m ≡ bare header.counts.dimensions → Gathered header.counts file.now r m
+gathered_none file header r m is none =
     record {
-      stands = standing_more c file r t x g.stands shows step;
-      has = more
-          ∙ ap (λ k. added k x) g.has
-          ∙ ap (added (partly c file r.position)) at.value
-          ∙ partly_more c file r.position at.section h
-          ∙ ap (partly c file) (sym step.position);
+      stands = standing_at file header 0 r is (omega arith);
+      has = none ∙ partly_none header.counts file.now ∙ ap (λ x. partly header.counts file.now x.position) (sym is);
     }
 
-pub gathered_all : (c : Counts) (file : List ℕ) (r : Reader) (m : Model) → length file ≡ file_end c → Gathered c file r m → record_in c file r.position ≡ None → m ≡ stated c file
-gathered_all c file r m whole g shows =
-    g.has ∙ ap (partly c file) (standing_end c file r whole g.stands shows) ∙ partly_all c file
+pub gathered_more : (c : Counts) (file : List ℕ) (r t : Reader) (m n : Model) (x : Record) → Gathered c file r m → Reads r (Some x) t → n ≡ added m x.item → Gathered c file t n
+gathered_more c file r t m n x g reads more =
+    let at = there c file r.position (section_of c r.position) (shown x) (standing_shows c file r t (Some x) g.stands reads) in
+    record {
+      stands = standing_more c file r t x g.stands reads;
+      has = more
+          ∙ ap (λ k. added k x.item) g.has
+          ∙ ap (λ y. added (partly c file r.position) y.item) at.value
+          ∙ partly_more c file r.position at.section (inside c r.position at.section at.stands)
+          ∙ ap (partly c file) (sym reads.step.position);
+    }
+
+pub gathered_all : (c : Counts) (file : List ℕ) (r t : Reader) (m : Model) → length file ≡ file_end c → Gathered c file r m → Reads r None t → m ≡ stated c file
+gathered_all c file r t m whole g reads =
+    g.has ∙ ap (partly c file) (standing_end c file r t whole g.stands reads) ∙ partly_all c file

@@ -1,9 +1,11 @@
--- From the checks to what opening promises.
-use Rattle.std.specs.declared.alloc.AllocError.{AllocError}
-use Rattle.std.proofs.Common.{◌≡◌, ℕ, ◌+◌, List, length, is_ok, Some, None, Ok, Err, sym, ap, ◌∙◌, subst, arith}
+-- From the one outcome of opening a file to what opening promises of its encodings and its records.
+use Rattle.std.proofs.Common.{◌≡◌, ℕ, ◌+◌, true, List, length, is_ok, Some, None, Ok, Err, Option, Result, refl, ap, ◌∙◌, subst}
+use Rattle.std.specs.List.{slice_get}
 use Rattle.std.specs.Option.{option_map}
 use Rattle.words.proofs.Encoded.{Octets}
+use Rattle.problem.specs.declared.problem.Problem.{Problem}
 use Rattle.problem.specs.Limits.{Model}
+use Rattle.problem.specs.Model.{model}
 use Rattle.problem_file.proofs.Headers.{formed}
 use Rattle.problem_file.specs.declared.counts.Counts.{Counts}
 use Rattle.problem_file.specs.declared.fault.FileFault.{FileFault}
@@ -12,89 +14,72 @@ use Rattle.problem_file.specs.Header.{header_of}
 use Rattle.problem_file.specs.Layout.{first, total}
 use Rattle.problem_file.specs.Records.{record_in}
 use Rattle.opening.specs.declared.fault.Fault.{Fault}
-use Rattle.opening.specs.declared.fault.Fault.TheVariants.{File, Problem as OfProblem}
 use Rattle.opening.specs.declared.fault.ProblemFault.{ProblemFault}
 use Rattle.opening.specs.declared.fault.ProblemFault.TheVariants.{Field, Order}
-use Rattle.opening.specs.Opened.{lowest, misfit, misplaced, stated, field_fault, order_fault, records_fault, judged, header_opened, opened}
 use Rattle.opening.specs.declared.fault.OpenError.{OpenError}
 use Rattle.opening.specs.declared.fault.OpenError.TheVariants.{Refused, Memory}
-use Rattle.opening.specs.Promise.{Encodes, Outcome, OpensEncodings}
-use Rattle.opening.specs.Entries.{HoldsShown, entry_of}
+use Rattle.opening.specs.Opened.{lowest, misfit, misplaced, stated, field_fault, order_fault, records_fault, judged, header_opened, opened}
+use Rattle.opening.specs.Promise.{Encodes, Outcome, OpensEncodings, HoldsRecords}
+use Rattle.opening.specs.Entries.{entries, entry_of}
 use Rattle.opening.proofs.Holds.{holds_shown}
 use Rattle.opening.proofs.Lowest.{mapped_none, neither}
 use Rattle.opening.proofs.Reopened.{reopened}
 use Rattle.opening.proofs.Within.{stated_within}
 use Rattle.opening.proofs.Written.{written}
 
--- the outcome is a refusal for the header
-pub header_refused : (file : List ℕ) (fault : FileFault) → header_of file ≡ Err fault → opened file ≡ Err (File fault)
-header_refused file fault e = ap (header_opened file) e
+-- a file that opens as a problem: its header is right, its records have no fault, and it states the problem
+record Granted (file : List ℕ) (m : Model) : Type 0 where
+  counts : Counts
+  header : header_of file ≡ Ok counts
+  faultless : records_fault counts file ≡ None
+  states : stated counts file ≡ m
 
--- the outcome is a refusal for a record
-pub records_refused : (file : List ℕ) (c : Counts) (fault : ProblemFault) → header_of file ≡ Ok c → Some fault ≡ records_fault c file → opened file ≡ Err (OfProblem fault)
-records_refused file c fault e found = ap (header_opened file) e ∙ ap (judged (stated c file)) (sym found)
+judged_ok : (s m : Model) (o : Option ProblemFault) → judged s o ≡ Ok m → (o ≡ None) × (s ≡ m)
+judged_ok s m None e = (refl, cc)
+judged_ok s m (Some fault) e = cc
 
--- the outcome is the problem
-pub granted : (file : List ℕ) (c : Counts) → header_of file ≡ Ok c → None ≡ records_fault c file → opened file ≡ Ok (stated c file)
-granted file c e none = ap (header_opened file) e ∙ ap (judged (stated c file)) (sym none)
+granted_from : (file : List ℕ) (m : Model) (h : Result Counts FileFault) → header_of file ≡ h → header_opened file h ≡ Ok m → Granted file m
+granted_from file m (Err fault) is e = cc
+granted_from file m (Ok c) is e =
+    let j = judged_ok (stated c file) m (records_fault c file) e in
+    record { counts = c; header = is; faultless = j.0; states = j.1 }
 
--- no field is out of its range
-fields_fit : (file : List ℕ) (c : Counts) → None ≡ records_fault c file → lowest (misfit c file) (total c) ≡ None
-fields_fit file c none = mapped_none Field (lowest (misfit c file) (total c)) (neither (field_fault c file) (order_fault c (stated c file).windows) (sym none)).0
+granted : (file : List ℕ) (m : Model) → opened file ≡ Ok m → Granted file m
+granted file m e = granted_from file m (header_of file) refl e
 
 -- the problem is within its limits, and the file is its encoding
-pub granted_encodes : (file : List ℕ) (c : Counts) → Octets file → header_of file ≡ Ok c → None ≡ records_fault c file → Encodes (stated c file) file
-granted_encodes file c small e none =
+pub encodes : (file : List ℕ) (m : Model) → Octets file → opened file ≡ Ok m → Encodes m file
+encodes file m small e =
+    let g = granted file m e in
+    let c = g.counts in
     let ws = (stated c file).windows in
-    let placed = mapped_none (λ k. Order (first c Windows + k)) (lowest (misplaced ws) (length ws)) (neither (field_fault c file) (order_fault c ws) (sym none)).1 in
-    record {
-      within = stated_within c file (formed file c e) (fields_fit file c none) placed;
-      bytes = written c file (formed file c e) small (fields_fit file c none);
-    }
+    let both = neither (field_fault c file) (order_fault c ws) g.faultless in
+    let fits = mapped_none Field (lowest (misfit c file) (total c)) both.0 in
+    let placed = mapped_none (λ k. Order (first c Windows + k)) (lowest (misplaced ws) (length ws)) both.1 in
+    let form = formed file c g.header in
+    subst (λ (x : Model). Encodes x file) g.states (record { within = stated_within c file form fits placed; bytes = written c file form small fits })
 
--- no other problem has that file
-pub only_one : (file : List ℕ) (p m : Model) → opened file ≡ Ok p → Encodes m file → m ≡ p
-only_one file p m e h = let back : opened file ≡ Ok m = ap opened h.bytes ∙ reopened m h.within in cc
+-- the encoding of a problem within the limits opens as that problem
+opened_again : (file : List ℕ) (m : Model) → Encodes m file → opened file ≡ Ok m
+opened_again file m h = ap opened h.bytes ∙ reopened m h.within
 
--- a refused file is the file of no problem within the limits
-none_at_all : (file : List ℕ) (fault : Fault) (m : Model) → opened file ≡ Err fault → Encodes m file → ⊥
-none_at_all file fault m e h =
-    let back : opened file ≡ Ok m = ap opened h.bytes ∙ reopened m h.within in
-    let z : ◌≡◌ {A = ℕ} 0 1 = cc in omega arith
+some_model : (o : Result Model Fault) → is_ok o ≡ true → (m : Model) × (o ≡ Ok m)
+some_model (Ok m) e = (m, refl)
+some_model (Err fault) e = cc
 
--- the problem holds what the reader shows
-holds : (file : List ℕ) (c : Counts) → header_of file ≡ Ok c → HoldsShown file (stated c file)
-holds file c e d f i =
-    let same : c ≡ d = cc in
-    ap (λ x. option_map entry_of (record_in x file i)) (sym same) ∙ holds_shown c file (formed file c e).ends i
+-- what a call's outcome says of the encodings
+pub opens : (file : List ℕ) (r : Result Problem OpenError) → Octets file → Outcome (opened file) r → OpensEncodings file r
+opens file (Ok p) small o = (encodes file (model p) small o, λ m h. let again = opened_again file m h in cc)
+opens file (Err (Refused fault)) small o = λ m h. let again = opened_again file m h in cc
+opens file (Err (Memory full)) small o = let found = some_model (opened file) o in (found.0, encodes file found.0 small found.1)
 
--- what opening promises of a problem that the file states
-pub record Granted (file : List ℕ) (m : Model) : Type 0 where
-  pub outcome : opened file ≡ Ok m
-  pub encodings : Encodes m file × ((other : Model) → Encodes other file → other ≡ m)
-  pub records : HoldsShown file m
-
-pub promised_granted : (file : List ℕ) (c : Counts) (m : Model) → Octets file → header_of file ≡ Ok c → None ≡ records_fault c file → m ≡ stated c file → Granted file m
-promised_granted file c m small e none said =
-    let outcome = granted file c e none in
-    subst (Granted file) (sym said)
-    (record {
-      outcome = outcome;
-      encodings = (granted_encodes file c small e none, λ other h. only_one file (stated c file) other outcome h);
-      records = holds file c e;
-    })
-
--- what it promises where it gives none
-pub record Withheld (file : List ℕ) (error : OpenError) : Type 0 where
-  pub outcome : Outcome (opened file) (Err error)
-  pub encodings : OpensEncodings file (Err error)
-
--- for a fault
-pub promised_refused : (file : List ℕ) (fault : Fault) (error : OpenError) → opened file ≡ Err fault → error ≡ Refused fault → Withheld file error
-promised_refused file fault error e is =
-    subst (Withheld file) (sym is) (record { outcome = e; encodings = λ m h. none_at_all file fault m e h })
-
--- for want of memory
-pub promised_memory : (file : List ℕ) (c : Counts) {memory : AllocError} (error : OpenError) → Octets file → header_of file ≡ Ok c → None ≡ records_fault c file → error ≡ Memory memory → Withheld file error
-promised_memory file c error small e none is =
-    subst (Withheld file) (sym is) (record { outcome = ap is_ok (granted file c e none); encodings = (stated c file, granted_encodes file c small e none) })
+-- and what it says of the records that the reader shows
+pub holds : (file : List ℕ) (r : Result Problem OpenError) → Outcome (opened file) r → HoldsRecords file r
+holds file (Ok p) o = λ d f i.
+    let g = granted file (model p) o in
+    let c = g.counts in
+    let same : d ≡ c = let h = g.header in cc in
+    ap (λ x. option_map entry_of (record_in x file i)) same
+    ∙ holds_shown c file (formed file c g.header).ends i
+    ∙ ap (λ m. slice_get (entries m) i) g.states
+holds file (Err error) o = tt

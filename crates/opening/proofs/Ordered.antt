@@ -1,5 +1,5 @@
 -- The windows' order: what it says window by window, and a walk that stops at the first window out of place.
-use Rattle.std.proofs.Common.{◌≡◌, ℕ, zero, suc, ◌+◌, ◌-◌, ◌<◌, ◌≤◌, true, false, List, length, get_or, Some, None, Option, sym, refl, ap, ◌∙◌, subst, ⊎_elim, arith, Bor}
+use Rattle.std.proofs.Common.{◌≡◌, ℕ, zero, suc, ◌+◌, ◌-◌, ◌<◌, ◌≤◌, true, false, List, length, get_or, Some, None, Option, sym, refl, ap, ◌∙◌, subst, ⊎_elim, add-one, arith, Bor}
 use Rattle.std.proofs.lemmas.List.FromFn.{length-map-range_with_len, get_or-map-range_with_len}
 use Rattle.std.proofs.lemmas.List.{get_or_default}
 use Rattle.std.proofs.lemmas.Bool.{cases_lt, not-false, not_from_true}
@@ -11,18 +11,20 @@ use Rattle.problem.specs.declared.dimensions.Dimensions.{Dimensions}
 use Rattle.problem.specs.Limits.{Follows, InOrder, WindowFits}
 use Rattle.problem_file.proofs.Places.{Inside, inside, record_there}
 use Rattle.problem_file.proofs.Shows.{there}
-use Rattle.problem_file.proofs.Standing.{Standing, standing_more}
+use Rattle.problem_file.proofs.Standing.{Standing, standing_at, standing_shows, standing_more}
 use Rattle.problem_file.specs.declared.counts.Counts.{Counts}
+use Rattle.problem_file.specs.declared.header.Header.{Header}
 use Rattle.problem_file.specs.declared.layout.Section.{Section}
 use Rattle.problem_file.specs.declared.layout.Section.TheVariants.{Tasks, Windows, Dependencies, Exclusions}
 use Rattle.problem_file.specs.declared.reader.Reader.{Reader}
 use Rattle.problem_file.specs.declared.record.Record.{Record}
-use Rattle.problem_file.specs.declared.record.Record.TheVariants.{Task as OfTask, Window as OfWindow, Dependency as OfDependency, Exclusion as OfExclusion}
+use Rattle.problem_file.specs.declared.record.Item.TheVariants.{Window as OfWindow}
 use Rattle.problem_file.specs.Layout.{count, first, file_end, section_of, record_bytes}
-use Rattle.problem_file.specs.Reader.{Stepped}
-use Rattle.problem_file.specs.Records.{Shown, a_task, a_window, a_dependency, an_exclusion, shown, reading, record_in}
+use Rattle.problem_file.specs.Reader.{standing, Reads}
+use Rattle.problem_file.specs.Records.{Shown, item_of, shown}
 use Rattle.opening.specs.declared.fault.ProblemFault.TheVariants.{Order}
-use Rattle.opening.specs.Opened.{lowest, misplaced, window_before, out_of_place, no_window, stated, window_in, order_fault}
+use Rattle.problem.specs.Lookup.{no_window}
+use Rattle.opening.specs.Opened.{lowest, misplaced, window_before, out_of_place, stated, window_in, order_fault}
 use Rattle.opening.specs.Ranges.{follows}
 use Rattle.opening.proofs.Lowest.{lowest_none, lowest_more, lowest_found, lowest_none_from, each_fails}
 use Rattle.opening.proofs.Tests.{decides_follows}
@@ -78,105 +80,86 @@ windows_long : (c : Counts) (file : List ℕ) → length (stated c file).windows
 unfolding stated
 windows_long c file = length-map-range_with_len (window_in c file) (first c Windows) (count c Windows)
 
-window_stated : (c : Counts) (file : List ℕ) (i : ℕ) → Inside c Windows i → get_or (stated c file).windows (i - first c Windows) no_window ≡ window_in c file i
+window_stated : (c : Counts) (file : List ℕ) (k : ℕ) → k < c.windows → get_or (stated c file).windows k no_window ≡ window_in c file (first c Windows + k)
 unfolding stated
-window_stated c file i h =
-    get_or-map-range_with_len (window_in c file) (first c Windows) (count c Windows) (i - first c Windows) i no_window (omega (arith, h.low, h.high)) (omega (arith, h.low))
+window_stated c file k lt =
+    get_or-map-range_with_len (window_in c file) (first c Windows) (count c Windows) k (first c Windows + k) no_window lt refl
 
 -- a window that is shown is the file's
-window_shown : (c : Counts) (file : List ℕ) (i : ℕ) (s : Section) (w : Window) (bytes : List ℕ) → a_window w bytes ≡ reading c.dimensions.processors s (record_bytes c file s i) → Inside c s i → Inside c Windows i × (w ≡ window_in c file i)
-window_shown c file i Tasks w bytes e h = let z : ◌≡◌ {A = ℕ} 0 1 = cc in absurd (omega arith)
-window_shown c file i Windows w bytes e h = (h, cc)
-window_shown c file i Dependencies w bytes e h = let z : ◌≡◌ {A = ℕ} 0 1 = cc in absurd (omega arith)
-window_shown c file i Exclusions w bytes e h = let z : ◌≡◌ {A = ℕ} 0 1 = cc in absurd (omega arith)
+window_shown : (c : Counts) (file : List ℕ) (i : ℕ) (s : Section) (w : Window) → OfWindow w ≡ item_of c.dimensions.processors s (record_bytes c file s i) → Inside c s i → Inside c Windows i × (w ≡ window_in c file i)
+window_shown c file i Tasks w e h = cc
+window_shown c file i Windows w e h = (h, cc)
+window_shown c file i Dependencies w e h = cc
+window_shown c file i Exclusions w e h = cc
 
-window_at_lem : (c : Counts) (file : List ℕ) (i : ℕ) (w : Window) (bytes : List ℕ) → record_in c file i ≡ Some (a_window w bytes) → Inside c Windows i × (w ≡ window_in c file i)
-window_at_lem c file i w bytes e =
-    let t = there c file i (section_of c i) (a_window w bytes) e in
-    window_shown c file i t.section w bytes t.value (inside c i t.section t.stands)
-
--- no window before the reader's position is out of place, and `before` is the last of them
-pub record Ordered (c : Counts) (file : List ℕ) (r : Reader) (before : Option Window) : Type 0 where
+-- the reader stands at window `k` of the list, none before it is out of place, and `before` is the one before it
+pub record Ordered (c : Counts) (file : List ℕ) (r : Reader) (k : ℕ) (before : Option Window) : Type 0 where
   pub stands : Standing c file r
-  pub low : first c Windows ≤ r.position
-  pub high : r.position ≤ first c Dependencies
-  pub last : before ≡ window_before (stated c file).windows (r.position - first c Windows)
-  pub none : lowest (misplaced (stated c file).windows) (r.position - first c Windows) ≡ None
+  pub here : r.position ≡ first c Windows + k
+  pub bound : k ≤ c.windows
+  pub last : before ≡ window_before (stated c file).windows k
+  pub none : lowest (misplaced (stated c file).windows) k ≡ None
 
-pub ordered_none : (c : Counts) (file : List ℕ) (r : Reader) → Standing c file r → r.position ≡ first c Windows → Ordered c file r None
-ordered_none c file r stands here =
-    let zero' : r.position - first c Windows ≡ 0 = omega arith in
-    let ws = (stated c file).windows in
+-- a window that the reader shows is window `k`
+window_read : (c : Counts) (file : List ℕ) (r t : Reader) (k : ℕ) (before : Option Window) (x : Record) (w : Window) → Ordered c file r k before → Reads r (Some x) t → x.item ≡ OfWindow w → (k < c.windows) × (get_or (stated c file).windows k no_window ≡ w)
+window_read c file r t k before x w o reads is =
+    let at = there c file r.position (section_of c r.position) (shown x) (standing_shows c file r t (Some x) o.stands reads) in
+    let same = window_shown c file r.position at.section w (sym is ∙ ap (λ y. y.item) at.value) (inside c r.position at.section at.stands) in
+    let lt : k < c.windows = omega (arith, same.0.high, o.here) in
+    (lt, window_stated c file k lt ∙ ap (window_in c file) (sym o.here) ∙ sym same.1)
+
+-- what the test of that window says of the list
+placed_is : (c : Counts) (file : List ℕ) (r : Reader) (k : ℕ) (before : Option Window) (w : Window) → Ordered c file r k before → get_or (stated c file).windows k no_window ≡ w → misplaced (stated c file).windows k ≡ out_of_place before w
+unfolding misplaced
+placed_is c file r k before w o is =
+    ap (λ b. out_of_place b (get_or (stated c file).windows k no_window)) (sym o.last) ∙ ap (out_of_place before) is
+
+-- at the first window, none is before it
+pub ordered_none : (file : Bor (List ℕ)) (header : Header) (r : Reader) → r ≡ standing file header (first header.counts Windows) → Ordered header.counts file.now r 0 None
+ordered_none file header r is =
     record {
-      stands = stands;
-      low = omega arith;
-      high = omega arith;
-      last = sym (ap (window_before ws) zero');
-      none = ap (lowest (misplaced ws)) zero' ∙ lowest_none (misplaced ws);
+      stands = standing_at file header (first header.counts Windows) r is (omega arith);
+      here = ap (λ x. x.position) is ∙ omega arith;
+      bound = omega arith;
+      last = refl;
+      none = lowest_none (misplaced (stated header.counts file.now).windows);
     }
 
--- what the test of the window at the reader's position says of the list
-placed_is : (c : Counts) (file : List ℕ) (r : Reader) (before : Option Window) (w : Window) → Ordered c file r before → Inside c Windows r.position → w ≡ window_in c file r.position → misplaced (stated c file).windows (r.position - first c Windows) ≡ out_of_place before w
-unfolding misplaced
-placed_is c file r before w o h same =
-    ap (λ b. out_of_place b (get_or (stated c file).windows (r.position - first c Windows) no_window)) (sym o.last)
-    ∙ ap (out_of_place before) (window_stated c file r.position h ∙ sym same)
-
 -- a window in its place takes the walk on
-pub ordered_more : (c : Counts) (file : List ℕ) (r t : Reader) (before : Option Window) (w : Window) (bytes : List ℕ) → Ordered c file r before → record_in c file r.position ≡ Some (a_window w bytes) → Stepped true r t → out_of_place before w ≡ false → Ordered c file t (Some w)
-ordered_more c file r t before w bytes o shows step passes =
-    let at = window_at_lem c file r.position w bytes shows in
-    let h = at.0 in
-    let k : ℕ = r.position - first c Windows in
+pub ordered_more : (c : Counts) (file : List ℕ) (r t : Reader) (k : ℕ) (before : Option Window) (x : Record) (w : Window) → Ordered c file r k before → Reads r (Some x) t → x.item ≡ OfWindow w → out_of_place before w ≡ false → Ordered c file t (k + 1) (Some w)
+ordered_more c file r t k before x w o reads is passes =
+    let at = window_read c file r t k before x w o reads is in
     let ws = (stated c file).windows in
-    let next : suc k ≡ t.position - first c Windows = omega (arith, step.position, o.low) in
-    let more : k + 1 ≡ t.position - first c Windows = omega (arith, step.position, o.low) in
     record {
-      stands = standing_more c file r t (a_window w bytes) o.stands shows step;
-      low = omega (arith, step.position, o.low);
-      high = omega (arith, step.position, h.high);
-      last = ap Some (at.1 ∙ sym (window_stated c file r.position h)) ∙ ap (window_before ws) next;
-      none = ap (lowest (misplaced ws)) (sym more) ∙ lowest_more (misplaced ws) k o.none (placed_is c file r before w o h at.1 ∙ passes);
+      stands = standing_more c file r t x o.stands reads;
+      here = omega (arith, reads.step.position, o.here);
+      bound = omega (arith, at.0);
+      last = ap Some (sym at.1) ∙ ap (window_before ws) (sym (add-one k));
+      none = lowest_more (misplaced ws) k o.none (placed_is c file r k before w o at.1 ∙ passes);
     }
 
 -- the first window out of its place is the lowest
-pub ordered_found : (c : Counts) (file : List ℕ) (r : Reader) (j : ℕ) (before : Option Window) (w : Window) (bytes : List ℕ) → Ordered c file r before → record_in c file r.position ≡ Some (a_window w bytes) → j ≡ r.position + 1 → out_of_place before w ≡ true → Some (Order (j - 1)) ≡ order_fault c (stated c file).windows
-ordered_found c file r j before w bytes o shows next fails =
-    let at = window_at_lem c file r.position w bytes shows in
-    let h = at.0 in
-    let k : ℕ = r.position - first c Windows in
+pub ordered_found : (c : Counts) (file : List ℕ) (r t : Reader) (k : ℕ) (before : Option Window) (x : Record) (w : Window) → Ordered c file r k before → Reads r (Some x) t → x.item ≡ OfWindow w → out_of_place before w ≡ true → Some (Order (first c Windows + k)) ≡ order_fault c (stated c file).windows
+ordered_found c file r t k before x w o reads is fails =
+    let at = window_read c file r t k before x w o reads is in
     let ws = (stated c file).windows in
-    let found = lowest_found (misplaced ws) k (length ws) o.none (placed_is c file r before w o h at.1 ∙ fails) (omega (arith, h.low, h.high, windows_long c file)) in
-    let number : j - 1 ≡ first c Windows + k = omega (arith, o.low) in
-    ap (λ n. Some (Order n)) number ∙ ap (option_map (λ n. Order (first c Windows + n))) (sym found)
-
--- a walk past the last window finds none
-ordered_all : (c : Counts) (file : List ℕ) (r : Reader) (before : Option Window) → Ordered c file r before → first c Dependencies ≤ r.position → None ≡ order_fault c (stated c file).windows
-ordered_all c file r before o past =
-    let ws = (stated c file).windows in
-    let all : r.position - first c Windows ≡ length ws = omega (arith, o.high, windows_long c file) in
-    ap (option_map (λ n. Order (first c Windows + n))) (sym (ap (lowest (misplaced ws)) (sym all) ∙ o.none))
+    ap (option_map (λ n. Order (first c Windows + n))) (sym (lowest_found (misplaced ws) k (length ws) o.none (placed_is c file r k before w o at.1 ∙ fails) (omega (arith, at.0, windows_long c file))))
 
 -- the reader shows no window
 abbrev pub NoWindow : Option Shown → Type 0
 NoWindow None = Unit {0}
-NoWindow (Some (a_task t bytes)) = Unit {0}
-NoWindow (Some (a_window w bytes)) = ⊥
-NoWindow (Some (a_dependency x bytes)) = Unit {0}
-NoWindow (Some (an_exclusion x bytes)) = Unit {0}
+NoWindow (Some x) = (w : Window) → x.item ≡ OfWindow w → ⊥
 
-pub ordered_end : (c : Counts) (file : List ℕ) (r : Reader) (before : Option Window) → length file ≡ file_end c → Ordered c file r before → NoWindow (record_in c file r.position) → None ≡ order_fault c (stated c file).windows
-ordered_end c file r before whole o other =
+-- where it shows none, all windows have been shown, and each is in its place
+pub ordered_end : (c : Counts) (file : List ℕ) (r t : Reader) (k : ℕ) (before : Option Window) (o : Option Record) → length file ≡ file_end c → Ordered c file r k before → Reads r o t → NoWindow (option_map shown o) → None ≡ order_fault c (stated c file).windows
+ordered_end c file r t k before o whole w reads other =
+    let ws = (stated c file).windows in
     ⊎_elim
-    (λ (lt : r.position < first c Dependencies).
-    let h : Inside c Windows r.position = record { low = o.low; high = lt } in
-    absurd (subst NoWindow (record_there c file r.position Windows whole h) other))
-    (λ (le : first c Dependencies ≤ r.position). ordered_all c file r before o le)
-    (cases_lt r.position (first c Dependencies))
-
--- a record that is no window
-pub no_window_lem : (item : Record) → ((w : Window) (bytes : Bor (List ℕ)) → item ≡ OfWindow w bytes → ⊥) → NoWindow (Some (shown item))
-no_window_lem (OfTask t bytes) other = tt
-no_window_lem (OfWindow w bytes) other = other w bytes refl
-no_window_lem (OfDependency x bytes) other = tt
-no_window_lem (OfExclusion x bytes) other = tt
+    (λ (lt : k < c.windows).
+    let h : Inside c Windows r.position = record { low = omega (arith, w.here); high = omega (arith, w.here) } in
+    let shows = sym (record_there c file r.position Windows whole h) ∙ standing_shows c file r t o w.stands reads in
+    absurd (subst NoWindow (sym shows) other _ refl))
+    (λ (le : c.windows ≤ k).
+    let all : k ≡ length ws = omega (arith, w.bound, windows_long c file) in
+    ap (option_map (λ n. Order (first c Windows + n))) (sym (ap (lowest (misplaced ws)) (sym all) ∙ w.none)))
+    (cases_lt k c.windows)

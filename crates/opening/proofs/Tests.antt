@@ -10,8 +10,10 @@ use Rattle.problem.specs.declared.exclusion.Exclusion.{Exclusion}
 use Rattle.problem.specs.declared.task.Task.{Task}
 use Rattle.problem.specs.declared.window.Window.{Window}
 use Rattle.problem.specs.Limits.{DeadlineFits, DurationsFit, TaskFits, WindowFits, DependencyFits, ExclusionFits, Follows}
-use Rattle.problem_file.specs.Records.{Shown, a_task, a_window, a_dependency, an_exclusion}
-use Rattle.opening.specs.Ranges.{MarkFits, Fits, deadline_in_range, longest, task_in_range, window_in_range, dependency_in_range, exclusion_in_range, in_range, follows}
+use Rattle.problem_file.specs.declared.record.Item.{Item}
+use Rattle.problem_file.specs.declared.record.Item.TheVariants.{Task as OfTask, Window as OfWindow, Dependency as OfDependency, Exclusion as OfExclusion}
+use Rattle.problem_file.specs.Records.{Shown}
+use Rattle.opening.specs.Ranges.{MarkFits, Fits, deadline_in_range, longest, task_in_range, window_in_range, dependency_in_range, exclusion_in_range, ItemFits, item_in_range, in_range, follows}
 
 decides_window : (d : Dimensions) (w : Window) → Decides (window_in_range d w) (WindowFits d w)
 decides_window d w = (
@@ -93,11 +95,11 @@ decides_task d t four =
     )
 
 -- a record that is long enough for what it says
-abbrev pub Sized : Shown → Type 0
-Sized (a_task t bytes) = (length t.durations ≡ 4) × (8 ≤ length bytes)
-Sized (a_window w bytes) = Unit {0}
-Sized (a_dependency x bytes) = Unit {0}
-Sized (an_exclusion x bytes) = Unit {0}
+abbrev pub Sized : List ℕ → Item → Type 0
+Sized bytes (OfTask t) = (length t.durations ≡ 4) × (8 ≤ length bytes)
+Sized bytes (OfWindow w) = Unit {0}
+Sized bytes (OfDependency x) = Unit {0}
+Sized bytes (OfExclusion x) = Unit {0}
 
 mark_there : (bytes : List ℕ) → 8 ≤ length bytes → read_at bytes 4 ≡ Some (word_at bytes 4)
 mark_there bytes long = cond-true (leb (4 + 4) (length bytes)) (Some (word_at bytes 4)) None (le-leb 8 (length bytes) long)
@@ -109,9 +111,12 @@ decides_mark bytes long =
       λ f. le-leb (word_at bytes 4) 1 (subst (λ (o : Option ℕ). MatchOption o ⊥ (λ mark. mark ≤ 1)) e f),
     )
 
-pub decides_shown : (d : Dimensions) (x : Shown) → Sized x → Decides (in_range d x) (Fits d x)
-decides_shown d (a_task t bytes) long =
+decides_item : (d : Dimensions) (bytes : List ℕ) (i : Item) → Sized bytes i → Decides (item_in_range d bytes i) (ItemFits d bytes i)
+decides_item d bytes (OfTask t) long =
     Decides-and (leb (word_at bytes 4) 1) (task_in_range d t) (decides_mark bytes long.1) (decides_task d t long.0)
-decides_shown d (a_window w bytes) long = decides_window d w
-decides_shown d (a_dependency x bytes) long = decides_dependency d x
-decides_shown d (an_exclusion x bytes) long = decides_exclusion d x
+decides_item d bytes (OfWindow w) long = decides_window d w
+decides_item d bytes (OfDependency x) long = decides_dependency d x
+decides_item d bytes (OfExclusion x) long = decides_exclusion d x
+
+pub decides_shown : (d : Dimensions) (x : Shown) → Sized x.bytes x.item → Decides (in_range d x) (Fits d x)
+decides_shown d x long = decides_item d x.bytes x.item long

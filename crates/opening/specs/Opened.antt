@@ -6,6 +6,7 @@ use Rattle.problem.specs.declared.exclusion.Exclusion.{Exclusion}
 use Rattle.problem.specs.declared.task.Task.{Task}
 use Rattle.problem.specs.declared.window.Window.{Window}
 use Rattle.problem.specs.Limits.{Model}
+use Rattle.problem.specs.Lookup.{no_window}
 use Rattle.problem_file.specs.declared.counts.Counts.{Counts}
 use Rattle.problem_file.specs.declared.fault.FileFault.{FileFault}
 use Rattle.problem_file.specs.declared.layout.Section.TheVariants.{Tasks, Windows, Dependencies, Exclusions}
@@ -57,10 +58,6 @@ outside c (Some x) = not (in_range c.dimensions x)
 -- record `i` has a field outside its range
 unfoldable pub misfit : Counts → List ℕ → ℕ → Bool
 misfit c file i = outside c (record_in c file i)
-
--- stands for no window where a list has none
-abbrev pub no_window : Window
-no_window = record { processor = 0; partition = 0; begin = 0; end = 0 }
 
 -- the window before window `k` of the list, if there is one
 abbrev pub window_before : List Window → ℕ → Option Window

@@ -6,18 +6,24 @@ use Rattle.problem.specs.declared.exclusion.Exclusion.{Exclusion}
 use Rattle.problem.specs.declared.task.Task.{Task}
 use Rattle.problem.specs.declared.window.Window.{Window}
 use Rattle.problem.specs.Limits.{TaskFits, WindowFits, DependencyFits, ExclusionFits}
-use Rattle.problem_file.specs.Records.{Shown, a_task, a_window, a_dependency, an_exclusion}
+use Rattle.problem_file.specs.declared.record.Item.{Item}
+use Rattle.problem_file.specs.declared.record.Item.TheVariants.{Task as OfTask, Window as OfWindow, Dependency as OfDependency, Exclusion as OfExclusion}
+use Rattle.problem_file.specs.Records.{Shown}
 
 -- the second word of a task, its whole mark, is 0 or 1
 abbrev pub MarkFits : List ℕ → Type 0
 MarkFits bytes = MatchOption (read_at bytes 4) ⊥ (λ mark. mark ≤ 1)
 
+-- what a record says, made of these bytes, has every field in its range
+abbrev pub ItemFits : Dimensions → List ℕ → Item → Type 0
+ItemFits d bytes (OfTask t) = MarkFits bytes × TaskFits d t
+ItemFits d bytes (OfWindow w) = WindowFits d w
+ItemFits d bytes (OfDependency x) = DependencyFits d x
+ItemFits d bytes (OfExclusion x) = ExclusionFits d x
+
 -- every field of a record is in its range
 abbrev pub Fits : Dimensions → Shown → Type 0
-Fits d (a_task t bytes) = MarkFits bytes × TaskFits d t
-Fits d (a_window w bytes) = WindowFits d w
-Fits d (a_dependency x bytes) = DependencyFits d x
-Fits d (an_exclusion x bytes) = ExclusionFits d x
+Fits d x = ItemFits d x.bytes x.item
 
 -- The same as tests, by which the outcome is computed.
 
@@ -56,12 +62,16 @@ abbrev pub exclusion_in_range : Dimensions → Exclusion → Bool
 exclusion_in_range d x =
     nat_lt x.first d.tasks && nat_lt x.second d.tasks && not (x.first == x.second) && nat_le x.distance 3
 
+-- what a record says, made of these bytes, has every field in its range, and a task's whole mark is 0 or 1
+abbrev pub item_in_range : Dimensions → List ℕ → Item → Bool
+item_in_range d bytes (OfTask t) = nat_le (word_at bytes 4) 1 && task_in_range d t
+item_in_range d bytes (OfWindow w) = window_in_range d w
+item_in_range d bytes (OfDependency x) = dependency_in_range d x
+item_in_range d bytes (OfExclusion x) = exclusion_in_range d x
+
 -- every field of a record is in its range, and a task's whole mark is 0 or 1
 abbrev pub in_range : Dimensions → Shown → Bool
-in_range d (a_task t bytes) = nat_le (word_at bytes 4) 1 && task_in_range d t
-in_range d (a_window w bytes) = window_in_range d w
-in_range d (a_dependency x bytes) = dependency_in_range d x
-in_range d (an_exclusion x bytes) = exclusion_in_range d x
+in_range d x = item_in_range d x.bytes x.item
 
 -- window `w` may stand right after `v`: on a higher processor, or on the same where `v` has ended
 abbrev pub follows : Window → Window → Bool

@@ -3,8 +3,7 @@
 
 ghost use Rattle.opening.specs.Opened.{opened, records_fault};
 ghost use Rattle.opening.specs.Promise.{HoldsRecords, OpensEncodings, Outcome};
-ghost use Rattle.problem_file.specs.Layout.{file_end};
-ghost use Rattle.std.specs.Prelude.{◌≡◌, length};
+ghost use Rattle.std.specs.Prelude.{◌≡◌};
 
 pub mod fault;
 mod fields;
@@ -17,15 +16,14 @@ use crate::fields::field_fault;
 use crate::order::order_fault;
 use crate::statement::Statement;
 use problem::problem::Problem;
-use problem_file::header::Header;
+use problem_file::file::ProblemFile;
 use std::alloc::Global;
 
 /// The first fault of the records: their order counts only where every field is in its range.
-fn records_fault(file: &[u8], header: Header) -> Option<ProblemFault>
-    requires { length file.now ≡ file_end header.counts }
-    ensures { result ≡ records_fault header.counts file.now }
+fn records_fault(file: ProblemFile<'_>) -> Option<ProblemFault>
+    ensures { result ≡ records_fault file.entry.header.counts file.entry.bytes.now }
 {
-    field_fault(file, header).or(order_fault(file, header))
+    field_fault(file).or(order_fault(file))
 }
 
 /// The problem that the file states, or the first of its faults. Only a file without faults needs memory.
@@ -34,22 +32,9 @@ pub fn open(heap: Global, file: &[u8]) -> Result<Problem, OpenError>
     ensures encodings { OpensEncodings file.now result }
     ensures records { HoldsRecords file.now result }
 {
-    let header = Header::read(file)?;
-    if let Some(fault) = records_fault(file, header) {
+    let file = ProblemFile::read(file)?;
+    if let Some(fault) = records_fault(file) {
         return Err(fault.into());
     }
-    let Statement {
-        dimensions,
-        tasks,
-        windows,
-        dependencies,
-        exclusions,
-    } = Statement::gather(heap, file, header)?;
-    Ok(Problem {
-        dimensions,
-        tasks,
-        windows,
-        dependencies,
-        exclusions,
-    })
+    Ok(Statement::gather(heap, file)?.into_problem())
 }

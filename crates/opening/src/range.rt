@@ -1,28 +1,25 @@
 ghost use Rattle.opening.specs.Ranges.{Fits, MarkFits};
 ghost use Rattle.problem_file.specs.Records.{shown};
-ghost use Rattle.std.specs.Prelude.{Decides};
+ghost use Rattle.std.specs.Prelude.{◌↔◌, IsTrue};
 
 use problem::dimensions::Dimensions;
-use problem_file::record::Record;
+use problem_file::record::{Item, Record};
 
 /// The mark that says whether a task is whole is 0 or 1.
 fn mark_fits(bytes: &[u8]) -> bool
-    ensures { Decides result (MarkFits bytes.now) }
+    ensures { IsTrue result ↔ MarkFits bytes.now }
 {
-    match words::read(bytes, 4) {
-        Some(mark) => mark <= 1,
-        None => false,
-    }
+    words::read(bytes, 4).is_some_and(|mark| mark <= 1)
 }
 
 /// Every field of the record is in its range.
-pub(crate) fn in_range(item: &Record<'_>, dimensions: &Dimensions) -> bool
-    ensures { Decides result (Fits dimensions.now (shown item.now)) }
+pub(crate) fn in_range(record: &Record<'_>, dimensions: &Dimensions) -> bool
+    ensures { IsTrue result ↔ Fits dimensions.now (shown «record».now) }
 {
-    match item {
-        Record::Task { task, bytes } => mark_fits(bytes) && task.fits(dimensions),
-        Record::Window { window, .. } => window.fits(dimensions),
-        Record::Dependency { dependency, .. } => dependency.fits(dimensions),
-        Record::Exclusion { exclusion, .. } => exclusion.fits(dimensions),
+    match &record.item {
+        Item::Task(task) => mark_fits(record.bytes) && task.fits(dimensions),
+        Item::Window(window) => window.fits(dimensions),
+        Item::Dependency(dependency) => dependency.fits(dimensions),
+        Item::Exclusion(exclusion) => exclusion.fits(dimensions),
     }
 }

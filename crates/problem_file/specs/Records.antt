@@ -8,8 +8,9 @@ use Rattle.problem.specs.declared.window.Window.{Window}
 use Rattle.problem_file.specs.declared.counts.Counts.{Counts}
 use Rattle.problem_file.specs.declared.layout.Section.{Section}
 use Rattle.problem_file.specs.declared.layout.Section.TheVariants.{Tasks, Windows, Dependencies, Exclusions}
+use Rattle.problem_file.specs.declared.record.Item.{Item}
+use Rattle.problem_file.specs.declared.record.Item.TheVariants.{Task as OfTask, Window as OfWindow, Dependency as OfDependency, Exclusion as OfExclusion}
 use Rattle.problem_file.specs.declared.record.Record.{Record}
-use Rattle.problem_file.specs.declared.record.Record.TheVariants.{Task as OfTask, Window as OfWindow, Dependency as OfDependency, Exclusion as OfExclusion}
 use Rattle.problem_file.specs.Layout.{bytes_in, section_of}
 
 -- the deadline that a word states: the largest word stands for none
@@ -43,25 +44,24 @@ abbrev pub exclusion_of : List ℕ → Exclusion
 exclusion_of bytes = record { first = word_at bytes 0; second = word_at bytes 4; distance = word_at bytes 8 }
 
 -- a record as the reader shows it: what it says, and the bytes that it is made of
-pub data Shown : Type 0 where
-  a_task : Task → List ℕ → Shown
-  a_window : Window → List ℕ → Shown
-  a_dependency : Dependency → List ℕ → Shown
-  an_exclusion : Exclusion → List ℕ → Shown
+pub record Shown : Type 0 where
+  pub item : Item
+  pub bytes : List ℕ
 
 -- what the code's record shows
 abbrev pub shown : Record → Shown
-shown (OfTask t bytes) = a_task t bytes.now
-shown (OfWindow w bytes) = a_window w bytes.now
-shown (OfDependency x bytes) = a_dependency x bytes.now
-shown (OfExclusion x bytes) = an_exclusion x bytes.now
+shown r = record { item = r.item; bytes = r.bytes.now }
+
+-- what the bytes say as a record of a section
+abbrev pub item_of : ℕ → Section → List ℕ → Item
+item_of p Tasks bytes = OfTask (task_of p bytes)
+item_of p Windows bytes = OfWindow (window_of bytes)
+item_of p Dependencies bytes = OfDependency (dependency_of bytes)
+item_of p Exclusions bytes = OfExclusion (exclusion_of bytes)
 
 -- the record of a section that the bytes are
 abbrev pub reading : ℕ → Section → List ℕ → Shown
-reading p Tasks bytes = a_task (task_of p bytes) bytes
-reading p Windows bytes = a_window (window_of bytes) bytes
-reading p Dependencies bytes = a_dependency (dependency_of bytes) bytes
-reading p Exclusions bytes = an_exclusion (exclusion_of bytes) bytes
+reading p s bytes = record { item = item_of p s bytes; bytes = bytes }
 
 -- record `i` of the file, where it stands in a section and all its bytes are there
 abbrev pub record_of : Counts → List ℕ → ℕ → Option Section → Option Shown

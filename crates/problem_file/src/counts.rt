@@ -1,5 +1,5 @@
 ghost use Rattle.problem_file.specs.Layout.{CountsFit};
-ghost use Rattle.std.specs.Prelude.{Decides};
+ghost use Rattle.std.specs.Prelude.{◌↔◌, IsTrue};
 
 use problem::dimensions::Dimensions;
 
@@ -15,7 +15,7 @@ pub struct Counts {
 impl Counts {
     /// The frame and every count are within their limits.
     pub(crate) fn fit(&self) -> bool
-        ensures { Decides result (CountsFit self.now) }
+        ensures { IsTrue result ↔ CountsFit self.now }
     {
         self.dimensions.fit()
             && self.windows <= 64

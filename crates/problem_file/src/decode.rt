@@ -1,15 +1,16 @@
 ghost use Rattle.std.specs.Prelude.{◌≡◌, ◌+◌, ◌*◌, length};
 ghost use Rattle.problem_file.specs.Layout.{size};
-ghost use Rattle.problem_file.specs.Records.{deadline_of, dependency_of, duration_or, exclusion_of, reading, shown, task_of, window_of};
+ghost use Rattle.problem_file.specs.Records.{deadline_of, dependency_of, duration_or, exclusion_of, item_of, task_of, window_of};
 
 use crate::header::Header;
 use crate::layout::Section;
-use crate::record::Record;
+use crate::record::Item;
 use crate::word::word;
 use problem::dependency::Dependency;
 use problem::exclusion::Exclusion;
 use problem::task::Task;
 use problem::window::Window;
+use std::array;
 
 /// The deadline that a word states: the largest word stands for none.
 fn deadline_of(word: u32) -> Option<u32>
@@ -39,12 +40,7 @@ fn read_task(bytes: &[u8], processors: u32) -> Task
         whole: word(bytes, 4) == 1,
         release: word(bytes, 8),
         deadline: deadline_of(word(bytes, 12)),
-        durations: [
-            duration_or(bytes, processors, 0),
-            duration_or(bytes, processors, 1),
-            duration_or(bytes, processors, 2),
-            duration_or(bytes, processors, 3),
-        ],
+        durations: array::from_fn(|processor| duration_or(bytes, processors, processor)),
     }
 }
 
@@ -84,28 +80,16 @@ fn read_exclusion(bytes: &[u8]) -> Exclusion
 }
 
 impl Header {
-    /// The record of the section that the bytes are.
-    pub(crate) fn decode<'a>(&self, section: Section, bytes: &'a [u8]) -> Record<'a>
+    /// What the bytes say as a record of the section.
+    pub(crate) fn decode(&self, section: Section, bytes: &[u8]) -> Item
         requires { length bytes.now ≡ size self.now.counts section }
-        ensures { shown result ≡ reading self.now.counts.dimensions.processors section bytes.now }
+        ensures { result ≡ item_of self.now.counts.dimensions.processors section bytes.now }
     {
         match section {
-            Section::Tasks => Record::Task {
-                task: read_task(bytes, self.counts.dimensions.processors),
-                bytes,
-            },
-            Section::Windows => Record::Window {
-                window: read_window(bytes),
-                bytes,
-            },
-            Section::Dependencies => Record::Dependency {
-                dependency: read_dependency(bytes),
-                bytes,
-            },
-            Section::Exclusions => Record::Exclusion {
-                exclusion: read_exclusion(bytes),
-                bytes,
-            },
+            Section::Tasks => Item::Task(read_task(bytes, self.counts.dimensions.processors)),
+            Section::Windows => Item::Window(read_window(bytes)),
+            Section::Dependencies => Item::Dependency(read_dependency(bytes)),
+            Section::Exclusions => Item::Exclusion(read_exclusion(bytes)),
         }
     }
 }

@@ -1,8 +1,9 @@
-ghost use Rattle.std.specs.Prelude.{◌≡◌, ◌+◌, ◌<◌, ◌≤◌, length, IfSome};
-ghost use Rattle.problem_file.specs.Layout.{bytes_in, count, file_end, first, section_of, size, start, total};
+ghost use Rattle.std.specs.Prelude.{◌≡◌, ◌+◌, IfSome};
+ghost use Rattle.problem_file.specs.Layout.{file_end, first, record_at, section_of, size, start, total};
 ghost use Rattle.std.specs.Option.{option_map};
 
 use crate::header::Header;
+use std::ops::Range;
 
 /// The four lists of records, in the file's order.
 #[derive(Clone, Copy)]
@@ -87,23 +88,14 @@ impl Header {
         self.start(Section::Exclusions) + 12 * self.counts.exclusions as usize
     }
 
-    /// The bytes of a record of the section, where all of them are in the file.
-    pub(crate) fn bytes<'a>(
-        &self,
-        file: &'a [u8],
-        section: Section,
-        index: usize,
-    ) -> Option<&'a [u8]>
-        requires section_bound { first self.now.counts section ≤ index }
-        requires index_bound { index < first self.now.counts section + count self.now.counts section }
-        ensures value { option_map (λ x. x.now) result ≡ bytes_in self.now.counts file.now section index }
-        ensures len { IfSome result (λ bytes. length bytes.now ≡ size self.now.counts section) }
+    /// The section that record `index` stands in, and the bytes at which the record begins and ends; nothing past the last record.
+    pub(crate) fn place(&self, index: usize) -> Option<(Section, Range<usize>)>
+        ensures section { option_map (λ place. place.0) result ≡ section_of self.now.counts index }
+        ensures bytes { IfSome result (λ place. (place.1.start ≡ record_at self.now.counts place.0 index) × (place.1.end ≡ place.1.start + size self.now.counts place.0)) }
     {
+        let section = self.section(index)?;
         let size = self.size(section);
         let at = self.start(section) + size * (index - self.first(section));
-        if file.len() < at + size {
-            return None;
-        }
-        Some(&file[at..at + size])
+        Some((section, at..at + size))
     }
 }

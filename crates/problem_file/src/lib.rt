@@ -4,8 +4,10 @@
 pub mod counts;
 mod decode;
 pub mod fault;
+pub mod file;
 pub mod header;
 pub mod layout;
+pub mod read_file;
 pub mod read_header;
 pub mod reader;
 pub mod record;

@@ -1,7 +1,7 @@
-ghost use Rattle.std.specs.Prelude.{◌≡◌, ◌+◌, is_some};
-ghost use Rattle.problem_file.specs.Records.{record_in, shown};
-ghost use Rattle.problem_file.specs.Reader.{standing, Stepped};
-ghost use Rattle.std.specs.Option.{option_map};
+ghost use Rattle.std.specs.Prelude.{◌≡◌, ◌-◌};
+ghost use Rattle.std.specs.Iterator.{at_most};
+ghost use Rattle.problem_file.specs.Layout.{total};
+ghost use Rattle.problem_file.specs.Reader.{standing, Reads};
 
 use crate::header::Header;
 use crate::record::Record;
@@ -39,22 +39,21 @@ impl<'a> Reader<'a> {
     {
         self.position
     }
+}
+
+impl<'a> Iterator for Reader<'a> {
+    type Item = Record<'a>;
+
+    ghost next_gives = { Reads };
+
+    ghost remaining = { λ reader. at_most (total reader.header.counts - reader.position) };
 
     /// The next record, or nothing past the last record or where the file ends before it.
-    pub fn next(&mut self) -> Option<Record<'a>>
-        ensures shows { option_map shown result ≡ record_in self.old.header.counts self.old.file.now self.old.position }
-        ensures step { Stepped (is_some result) self.old self.new }
-    {
-        let file = self.file;
-        let header = self.header;
-        let position = self.position;
-        let Some(section) = header.section(position) else {
-            return None;
-        };
-        let Some(bytes) = header.bytes(file, section, position) else {
-            return None;
-        };
-        self.position = position + 1;
-        Some(header.decode(section, bytes))
+    fn next(&mut self) -> Option<Record<'a>> {
+        let (section, place) = self.header.place(self.position)?;
+        let bytes = self.file.get(place)?;
+        self.position += 1;
+        let item = self.header.decode(section, bytes);
+        Some(Record { item, bytes })
     }
 }

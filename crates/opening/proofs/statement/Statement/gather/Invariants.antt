@@ -1,11 +1,6 @@
-use Rattle.std.proofs.Common.{◌-◌}
-use Rattle.problem_file.specs.Layout.{total}
 use Rattle.opening.specs.Statement.{said}
 use Rattle.opening.proofs.Gathered.{Gathered}
 use Rattle.opening.proofs.statement.Statement.gather.Given as goal
 
-abbrev pub invariant-loop-item : goal.invariant-loop-item
-invariant-loop-item l = Gathered l.initial.reader.header.counts l.file l.reader (said l.statement)
-
-abbrev pub decreases-loop-item : goal.decreases-loop-item
-decreases-loop-item l = total l.reader.header.counts - l.reader.position
+abbrev pub invariant-loop-record : goal.invariant-loop-record
+invariant-loop-record l = Gathered l.file.header.counts l.file.bytes.now l.record-iterator (said l.statement)

@@ -4,6 +4,7 @@
 ghost use Rattle.opening.specs.Opened.{opened, records_fault};
 ghost use Rattle.opening.specs.Promise.{HoldsRecords, OpensEncodings, Outcome};
 ghost use Rattle.std.specs.Prelude.{◌≡◌};
+ghost use Rattle.std.specs.Result.{result_err};
 
 pub mod fault;
 mod fields;
@@ -12,18 +13,19 @@ mod range;
 mod statement;
 
 use crate::fault::{OpenError, ProblemFault};
-use crate::fields::field_fault;
-use crate::order::order_fault;
+use crate::fields::check_fields;
+use crate::order::check_order;
 use crate::statement::Statement;
 use problem::problem::Problem;
 use problem_file::file::ProblemFile;
 use std::alloc::Global;
 
-/// The first fault of the records: their order counts only where every field is in its range.
-fn records_fault(file: ProblemFile<'_>) -> Option<ProblemFault>
-    ensures { result ≡ records_fault file.entry.header.counts file.entry.bytes.now }
+/// The checks of the records: their order counts only where every field is in its range.
+fn check_records(file: ProblemFile<'_>) -> Result<(), ProblemFault>
+    ensures { result_err result ≡ records_fault file.entry.header.counts file.entry.bytes.now }
 {
-    field_fault(file).or(order_fault(file))
+    check_fields(file)?;
+    check_order(file)
 }
 
 /// The problem that the file states, or the first of its faults. Only a file without faults needs memory.
@@ -33,8 +35,6 @@ pub fn open(heap: Global, file: &[u8]) -> Result<Problem, OpenError>
     ensures records { HoldsRecords file.now result }
 {
     let file = ProblemFile::read(file)?;
-    if let Some(fault) = records_fault(file) {
-        return Err(fault.into());
-    }
+    check_records(file)?;
     Ok(Statement::gather(heap, file)?.into_problem())
 }

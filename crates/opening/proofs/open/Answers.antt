@@ -1,4 +1,4 @@
-use Rattle.std.proofs.Common.{◌≡◌, Ok, Err, rules, arith}
+use Rattle.std.proofs.Common.{◌≡◌, Ok, rules, arith}
 use Rattle.opening.specs.Opened.{opened}
 use Rattle.opening.specs.Statement.{said}
 use Rattle.opening.proofs.Opening.{encodes, opens, holds}
@@ -13,9 +13,9 @@ pub returns-in_err-file-clause-encodings : goal.returns-in_err-file-clause-encod
 returns-in_err-file-clause-encodings c =
     opens c.args.file.now c.from_residual.result (λ k. omega (arith, c.type_inv.file k)) (search rules)
 
-pub returns-in-Some-clause-encodings : goal.returns-in-Some-clause-encodings
-returns-in-Some-clause-encodings c =
-    opens c.args.file.now (Err c.into.result) (λ k. omega (arith, c.type_inv.file k)) (search rules)
+pub returns-in_err-check_records-clause-encodings : goal.returns-in_err-check_records-clause-encodings
+returns-in_err-check_records-clause-encodings c =
+    opens c.args.file.now c.from_residual-in_err-check_records.result (λ k. omega (arith, c.type_inv.file k)) (search rules)
 
 pub returns-in_err-gather-clause-encodings : goal.returns-in_err-gather-clause-encodings
 returns-in_err-gather-clause-encodings c =

@@ -1,7 +1,7 @@
 use Rattle.std.proofs.Common.{◌≡◌, Some, None, sym, ap, ◌∙◌, arith}
 use Rattle.opening.specs.declared.fault.ProblemFault.TheVariants.{Order}
 use Rattle.opening.proofs.Ordered.{ordered_none, ordered_more, ordered_found, ordered_end}
-use Rattle.opening.proofs.order.order_fault.Goals as goal
+use Rattle.opening.proofs.order.check_order.Goals as goal
 
 pub loop-number-init : goal.loop-number-init
 loop-number-init c =
@@ -26,7 +26,7 @@ loop-number-preserved c =
     let more = ordered_more c.args.file.header.counts c.args.file.bytes.now at.iter c.next.new.self.iter at.count c.loop-number.before c.in-Some.record c.in-Window.window c.loop-number.invariant c.in-Some.ensures.steps.0 c.in-Window.is (sym c.out_of_place.ensures ∙ c.if-out_of_place.false) in
     rw c.in-Some.ensures.steps.2 more
 
-pub returns : goal.returns
-returns c =
+pub returns-in-None : goal.returns-in-None
+returns-in-None c =
     let at = c.loop-number.number-iterator in
     ordered_end c.args.file.header.counts c.args.file.bytes.now at.iter c.next.new.self.iter at.count c.loop-number.before None c.args.file.whole c.loop-number.invariant c.in-None.ensures.steps.0 tt

@@ -35,10 +35,10 @@ lowest_none_from test (suc n) fails =
 
 pub neither : {X : Type 0} (o p : Option X) → option_or o p ≡ None → (o ≡ None) × (p ≡ None)
 neither None p e = (refl, e)
-neither (Some x) p e = let z : ◌≡◌ {A = ℕ} 0 1 = cc in absurd (omega arith)
+neither (Some x) p e = cc
 
 not_found : (b : Bool) (i : ℕ) → cond b (Some i) None ≡ None → b ≡ false
-not_found true i e = let z : ◌≡◌ {A = ℕ} 0 1 = cc in absurd (omega arith)
+not_found true i e = cc
 not_found false i e = refl
 
 -- where there is no lowest, each one fails
@@ -59,4 +59,4 @@ lowest_fewer test m n le none = lowest_none_from test m (λ k lt. each_fails tes
 -- where none is made of what was found, none was found
 pub mapped_none : {X Y : Type 0} (f : X → Y) (o : Option X) → option_map f o ≡ None → o ≡ None
 mapped_none f None e = refl
-mapped_none f (Some x) e = let z : ◌≡◌ {A = ℕ} 0 1 = cc in absurd (omega arith)
+mapped_none f (Some x) e = cc

@@ -1,7 +1,7 @@
 -- The tests of the ranges hold exactly where the ranges do.
-use Rattle.std.proofs.Common.{◌≡◌, ℕ, zero, suc, ◌+◌, ◌*◌, ◌<◌, ◌≤◌, Bool, true, ◌&&◌, ltb, leb, List, length, get_or, Some, None, Decides, Option, sym, refl, subst, arith, MatchOption}
+use Rattle.std.proofs.Common.{◌≡◌, ℕ, zero, suc, ◌+◌, ◌<◌, ◌≤◌, Bool, true, leb, List, length, get_or, Some, None, Decides, Option, sym, refl, subst, arith, MatchOption}
 use Rattle.std.proofs.lemmas.List.{get_or_past}
-use Rattle.std.proofs.lemmas.Bool.{and_parts, and_from, ltb-true, leb-true, lt-ltb, le-leb, cond-true}
+use Rattle.std.proofs.lemmas.Bool.{leb-true, le-leb, cond-true}
 use Rattle.std.proofs.lemmas.Bool.Decides.{nat_tests, Decides-and}
 use Rattle.words.specs.Words.{word_at, read_at}
 use Rattle.problem.specs.declared.dependency.Dependency.{Dependency}
@@ -68,30 +68,23 @@ short_at d ds f k =
 
 decides_task : (d : Dimensions) (t : Task) → length t.durations ≡ 4 → Decides (task_in_range d t) (TaskFits d t)
 decides_task d t four =
-    let deadline = decides_deadline d.frame t.deadline in
-    let a : Bool = ltb t.partition d.partitions in
-    let b : Bool = leb t.release (3 * d.frame) in
-    let x : Bool = deadline_in_range d.frame t.deadline in
-    let s : ℕ → Bool = short d t.durations in (
+    let deadline = decides_deadline d.frame t.deadline in (
       λ e.
-          let p3 = and_parts (a && b && x && s 0 && s 1 && s 2) (s 3) e in
-          let p2 = and_parts (a && b && x && s 0 && s 1) (s 2) p3.0 in
-          let p1 = and_parts (a && b && x && s 0) (s 1) p2.0 in
-          let p0 = and_parts (a && b && x) (s 0) p1.0 in
-          let px = and_parts (a && b) x p0.0 in
-          let pb = and_parts a b px.0 in
+          let e0 : short d t.durations 0 ≡ true = grind (arith, nat_tests) in
+          let e1 : short d t.durations 1 ≡ true = grind (arith, nat_tests) in
+          let e2 : short d t.durations 2 ≡ true = grind (arith, nat_tests) in
+          let e3 : short d t.durations 3 ≡ true = grind (arith, nat_tests) in
           record {
-            partition = ltb-true t.partition d.partitions pb.0;
-            release = leb-true t.release (3 * d.frame) pb.1;
-            deadline = deadline.0 px.1;
-            durations = durations_from d t.durations four (short_from d t.durations four p0.1 p1.1 p2.1 p3.1);
+            partition = grind (arith, nat_tests);
+            release = grind (arith, nat_tests);
+            deadline = deadline.0 (grind (arith, nat_tests));
+            durations = durations_from d t.durations four (short_from d t.durations four e0 e1 e2 e3);
           },
       λ f.
           let at = short_at d t.durations f.durations in
-          let ab = and_from a b (lt-ltb t.partition d.partitions f.partition) (le-leb t.release (3 * d.frame) f.release) in
-          let abx = and_from (a && b) x ab (deadline.1 f.deadline) in
-          and_from (a && b && x && s 0 && s 1 && s 2) (s 3)
-          (and_from (a && b && x && s 0 && s 1) (s 2) (and_from (a && b && x && s 0) (s 1) (and_from (a && b && x) (s 0) abx (at 0)) (at 1)) (at 2)) (at 3),
+          let e0 = at 0 in let e1 = at 1 in let e2 = at 2 in let e3 = at 3 in
+          let a = f.partition in let b = f.release in let x = deadline.1 f.deadline in
+          grind (arith, nat_tests),
     )
 
 -- a record that is long enough for what it says

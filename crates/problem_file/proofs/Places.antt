@@ -70,8 +70,8 @@ none_left c file i whole e =
     ⊎_elim
     (λ (lt : i < total c).
     let s = some_section c i lt in
-    let z : ◌≡◌ {A = ℕ} 0 1 = let f = record_there c file i s.0 whole (inside c i s.0 s.1) in cc in
-    absurd (omega arith))
+    let f = record_there c file i s.0 whole (inside c i s.0 s.1) in
+    cc)
     (λ (le : total c ≤ i). le)
     (cases_lt i (total c))
 

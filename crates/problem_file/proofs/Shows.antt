@@ -1,5 +1,5 @@
 -- What the reader shows is the record of the file.
-use Rattle.std.proofs.Common.{◌≡◌, ℕ, ◌+◌, ◌<◌, ◌≤◌, ltb, List, length, Some, None, Option, refl, ap, ◌∙◌, ⊎_elim, arith}
+use Rattle.std.proofs.Common.{◌≡◌, ℕ, ◌+◌, ◌<◌, ◌≤◌, ltb, List, length, Some, None, Option, refl, ap, ◌∙◌, ⊎_elim}
 use Rattle.std.proofs.lemmas.Bool.{le-ltb, lt-ltb, cond-false, cond-true, cases_lt}
 use Rattle.std.specs.Option.{option_map}
 use Rattle.problem_file.specs.declared.counts.Counts.{Counts}
@@ -25,13 +25,13 @@ pub record There (c : Counts) (file : List ℕ) (i : ℕ) (o : Option Section) (
   pub value : x ≡ reading c.dimensions.processors section (record_bytes c file section i)
 
 pub there : (c : Counts) (file : List ℕ) (i : ℕ) (o : Option Section) (x : Shown) → record_of c file i o ≡ Some x → There c file i o x
-there c file i None x e = let z : ◌≡◌ {A = ℕ} 0 1 = cc in absurd (omega arith)
+there c file i None x e = cc
 there c file i (Some s) x e =
     let end : ℕ = record_at c s i + size c s in
     ⊎_elim
     (λ (lt : length file < end).
     let f = ap (option_map (reading c.dimensions.processors s)) (cond-true (ltb (length file) end) None (Some (record_bytes c file s i)) (lt-ltb (length file) end lt)) in
-    let z : ◌≡◌ {A = ℕ} 0 1 = cc in absurd (omega arith))
+    cc)
     (λ (le : end ≤ length file).
     let f = ap (option_map (reading c.dimensions.processors s)) (bytes_there c file s i le) in
     record { section = s; stands = refl; within = le; value = cc })

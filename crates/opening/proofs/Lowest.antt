@@ -1,6 +1,6 @@
 -- The lowest number that passes a test.
 use Rattle.std.proofs.Common.{◌≡◌, ℕ, zero, suc, ◌+◌, ◌<◌, ◌≤◌, Bool, true, false, cond, Some, None, Option, sym, refl, ap, ◌∙◌, ⊎_elim, add-one, arith}
-use Rattle.std.proofs.lemmas.Bool.{cases_eq, cond-true, cond-false}
+use Rattle.std.proofs.lemmas.Bool.{cases_eq}
 use Rattle.std.specs.Option.{option_map, option_or}
 use Rattle.opening.specs.Opened.{lowest}
 
@@ -11,8 +11,7 @@ lowest_none test = refl
 -- a number that fails leaves none
 pub lowest_more : (test : ℕ → Bool) (i : ℕ) → lowest test i ≡ None → test i ≡ false → lowest test (i + 1) ≡ None
 unfolding lowest
-lowest_more test i none fails =
-    ap (lowest test) (add-one i) ∙ ap (λ o. option_or o (cond (test i) (Some i) None)) none ∙ cond-false (test i) (Some i) None fails
+lowest_more test i none fails = rw (add-one, lowest, none, fails)
 
 -- the first that passes is the lowest, however far the test goes on
 pub lowest_found : (test : ℕ → Bool) (i n : ℕ) → lowest test i ≡ None → test i ≡ true → i < n → lowest test n ≡ Some i
@@ -20,11 +19,8 @@ unfolding lowest
 lowest_found test i zero none passes lt = absurd (omega arith)
 lowest_found test i (suc n) none passes lt =
     ⊎_elim
-    (λ (e : n ≡ i).
-    ap (λ o. option_or o (cond (test n) (Some n) None)) (ap (lowest test) e ∙ none)
-    ∙ ap (λ k. cond (test k) (Some k) None) e
-    ∙ cond-true (test i) (Some i) None passes)
-    (λ (ne : n ≡ i → ⊥). ap (λ o. option_or o (cond (test n) (Some n) None)) (lowest_found test i n none passes (omega arith)))
+    (λ (e : n ≡ i). rw (e, none, passes))
+    (λ (ne : n ≡ i → ⊥). let below = lowest_found test i n none passes (omega arith) in rw below)
     (cases_eq n i)
 
 -- none below n passes

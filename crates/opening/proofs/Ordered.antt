@@ -45,8 +45,7 @@ unfolding misplaced
 neighbours ws none k v lt =
     let passes = each_fails (misplaced ws) (length ws) none (suc k) lt in
     let holds = (decides_follows (get_or ws k no_window) (get_or ws (suc k) no_window)).0 (not-false (follows (get_or ws k no_window) (get_or ws (suc k) no_window)) passes) in
-    subst (λ (w : Window). Follows (get_or ws k v) w) (get_or_default ws (suc k) no_window v lt)
-    (subst (λ (u : Window). Follows u (get_or ws (suc k) no_window)) (get_or_default ws k no_window v (omega arith)) holds)
+    rw (get_or_default ws (suc k) no_window v lt, get_or_default ws k no_window v (omega arith)) at holds
 
 -- what follows a window with a tick follows what that window follows
 then_follows : (u v w : Window) → v.begin < v.end → Follows u v → Follows v w → Follows u w
@@ -111,8 +110,7 @@ window_read c file r t k before x w o reads is =
 -- what the test of that window says of the list
 placed_is : (c : Counts) (file : List ℕ) (r : Reader) (k : ℕ) (before : Option Window) (w : Window) → Ordered c file r k before → get_or (stated c file).windows k no_window ≡ w → misplaced (stated c file).windows k ≡ out_of_place before w
 unfolding misplaced
-placed_is c file r k before w o is =
-    ap (λ b. out_of_place b (get_or (stated c file).windows k no_window)) (sym o.last) ∙ ap (out_of_place before) is
+placed_is c file r k before w o is = rw (← o.last, is)
 
 -- at the first window, none is before it
 pub ordered_none : (file : Bor (List ℕ)) (header : Header) (r : Reader) → r ≡ standing file header (first header.counts Windows) → Ordered header.counts file.now r 0 None

@@ -6,7 +6,6 @@ use Rattle.std.proofs.ByRecursion.{All-get_or, All-weaker}
 use Rattle.std.proofs.lemmas.List.{drop-drop, drop_at, same_lists}
 use Rattle.std.proofs.lemmas.Bool.{le-leb}
 use Rattle.std.specs.List.{range_with_len, flat_map, AllByRecursion}
-use Rattle.std.specs.Option.{option_map, option_or}
 use Rattle.words.proofs.Chunks.{piece_of, length_pieces}
 use Rattle.words.proofs.Encoded.{length_encoded, words_of_bytes}
 use Rattle.words.specs.Words.{encoded, word_at}
@@ -24,8 +23,7 @@ use Rattle.problem_file.specs.declared.layout.Section.TheVariants.{Tasks, Window
 use Rattle.problem_file.specs.Encoding.{task_words, window_words, dependency_words, exclusion_words, task_bytes, window_bytes, dependency_bytes, exclusion_bytes, header_words, encode}
 use Rattle.problem_file.specs.Layout.{first, start, total, file_end, record_bytes}
 use Rattle.problem_file.specs.Records.{Shown, task_of, window_of, dependency_of, exclusion_of, reading}
-use Rattle.opening.specs.declared.fault.ProblemFault.TheVariants.{Field, Order}
-use Rattle.opening.specs.Opened.{lowest, misfit, outside, stated, field_fault, order_fault, judged, header_opened, opened, task_in, window_in, dependency_in, exclusion_in}
+use Rattle.opening.specs.Opened.{lowest, misfit, outside, stated, opened, task_in, window_in, dependency_in, exclusion_in}
 use Rattle.opening.specs.Ranges.{Fits, in_range}
 use Rattle.opening.proofs.Lowest.{lowest_none_from}
 use Rattle.opening.proofs.Ordered.{none_misplaced}
@@ -170,25 +168,21 @@ window_record : (m : Model) → Within m → (j : ℕ) (d : Window) → j < leng
 unfolding encode window_bytes
 window_record m within j d lt =
     in_section 16 (start (counts_of m) Windows) (λ w. encoded (window_words w)) m.windows (encode m) (encoded (header_words m) ++ task_bytes m) (dependency_bytes m ++ exclusion_bytes m)
-    (sym (append_assoc (encoded (header_words m)) (task_bytes m) (window_bytes m ++ (dependency_bytes m ++ exclusion_bytes m))))
+    (simp append_assoc)
     (before_windows m within) (windows_long m.windows) j d lt
 
 dependency_record : (m : Model) → Within m → (j : ℕ) (d : Dependency) → j < length m.dependencies → take 16 (drop (start (counts_of m) Dependencies + 16 * j) (encode m)) ≡ encoded (dependency_words (get_or m.dependencies j d))
 unfolding encode dependency_bytes
 dependency_record m within j d lt =
     in_section 16 (start (counts_of m) Dependencies) (λ x. encoded (dependency_words x)) m.dependencies (encode m) ((encoded (header_words m) ++ task_bytes m) ++ window_bytes m) (exclusion_bytes m)
-    (sym (append_assoc (encoded (header_words m)) (task_bytes m) (window_bytes m ++ (dependency_bytes m ++ exclusion_bytes m)))
-    ∙ sym (append_assoc (encoded (header_words m) ++ task_bytes m) (window_bytes m) (dependency_bytes m ++ exclusion_bytes m)))
+    (simp append_assoc)
     (before_dependencies m within) (dependencies_long m.dependencies) j d lt
 
 exclusion_record : (m : Model) → Within m → (j : ℕ) (d : Exclusion) → j < length m.exclusions → take 12 (drop (start (counts_of m) Exclusions + 12 * j) (encode m)) ≡ encoded (exclusion_words (get_or m.exclusions j d))
 unfolding encode exclusion_bytes
 exclusion_record m within j d lt =
     in_section 12 (start (counts_of m) Exclusions) (λ x. encoded (exclusion_words x)) m.exclusions (encode m) (((encoded (header_words m) ++ task_bytes m) ++ window_bytes m) ++ dependency_bytes m) []
-    (sym (append_assoc (encoded (header_words m)) (task_bytes m) (window_bytes m ++ (dependency_bytes m ++ exclusion_bytes m)))
-    ∙ sym (append_assoc (encoded (header_words m) ++ task_bytes m) (window_bytes m) (dependency_bytes m ++ exclusion_bytes m))
-    ∙ sym (append_assoc ((encoded (header_words m) ++ task_bytes m) ++ window_bytes m) (dependency_bytes m) (exclusion_bytes m))
-    ∙ ap (λ ys. (((encoded (header_words m) ++ task_bytes m) ++ window_bytes m) ++ dependency_bytes m) ++ ys) (sym (append-nil (exclusion_bytes m))))
+    (simp (append_assoc, append-nil))
     (before_exclusions m within) (exclusions_long m.exclusions) j d lt
 
 -- record `i` of the encoding is the one that was written, and is in its range
@@ -279,7 +273,4 @@ pub reopened : (m : Model) → Within m → opened (encode m) ≡ Ok m
 reopened m within =
     let c = counts_of m in
     let file = encode m in
-    ap (header_opened file) (header_from file c (encode_formed m within))
-    ∙ ap (λ x. judged x (option_or (field_fault c file) (order_fault c x.windows))) (stated_is m within)
-    ∙ ap (λ o. judged m (option_or (option_map Field o) (order_fault c m.windows))) (none_misfits m within)
-    ∙ ap (λ o. judged m (option_map (λ k. Order (first c Windows + k)) o)) (none_misplaced m.windows within.order)
+    rw (header_from file c (encode_formed m within), stated_is m within, none_misfits m within, none_misplaced m.windows within.order)

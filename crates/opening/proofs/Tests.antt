@@ -1,7 +1,7 @@
 -- The tests of the ranges hold exactly where the ranges do.
-use Rattle.std.proofs.Common.{◌≡◌, ℕ, zero, suc, ◌+◌, ◌<◌, ◌≤◌, Bool, true, leb, List, length, get_or, Some, None, Decides, Option, sym, refl, subst, arith, MatchOption}
+use Rattle.std.proofs.Common.{◌≡◌, ℕ, zero, suc, ◌<◌, ◌≤◌, Bool, true, leb, List, length, get_or, Some, None, Decides, Option, refl, arith}
 use Rattle.std.proofs.lemmas.List.{get_or_past}
-use Rattle.std.proofs.lemmas.Bool.{leb-true, le-leb, cond-true}
+use Rattle.std.proofs.lemmas.Bool.{leb-true, le-leb}
 use Rattle.std.proofs.lemmas.Bool.Decides.{nat_tests, Decides-and}
 use Rattle.words.specs.Words.{word_at, read_at}
 use Rattle.problem.specs.declared.dependency.Dependency.{Dependency}
@@ -94,15 +94,10 @@ Sized bytes (OfWindow w) = Unit {0}
 Sized bytes (OfDependency x) = Unit {0}
 Sized bytes (OfExclusion x) = Unit {0}
 
-mark_there : (bytes : List ℕ) → 8 ≤ length bytes → read_at bytes 4 ≡ Some (word_at bytes 4)
-mark_there bytes long = cond-true (leb (4 + 4) (length bytes)) (Some (word_at bytes 4)) None (le-leb 8 (length bytes) long)
-
 pub decides_mark : (bytes : List ℕ) → 8 ≤ length bytes → Decides (leb (word_at bytes 4) 1) (MarkFits bytes)
 decides_mark bytes long =
-    let e = mark_there bytes long in (
-      λ t. subst (λ (o : Option ℕ). MatchOption o ⊥ (λ mark. mark ≤ 1)) (sym e) (leb-true (word_at bytes 4) 1 t),
-      λ f. le-leb (word_at bytes 4) 1 (subst (λ (o : Option ℕ). MatchOption o ⊥ (λ mark. mark ≤ 1)) e f),
-    )
+    let there : read_at bytes 4 ≡ Some (word_at bytes 4) = grind (arith, nat_tests) in
+    (λ t. rw there (leb-true (word_at bytes 4) 1 t), λ f. le-leb (word_at bytes 4) 1 (rw there at f))
 
 decides_item : (d : Dimensions) (bytes : List ℕ) (i : Item) → Sized bytes i → Decides (item_in_range d bytes i) (ItemFits d bytes i)
 decides_item d bytes (OfTask t) long =

@@ -1,7 +1,7 @@
 -- A record and its bytes: what is written is read again, and what is read is written again.
-use Rattle.std.proofs.Common.{◌≡◌, ℕ, zero, suc, ◌+◌, ◌*◌, ◌^◌, ◌<◌, ◌≤◌, Bool, true, false, cond, eqb, ltb, List, ◌∷◌, map, length, get_or, take, Some, None, Option, sym, refl, ap, ◌∙◌, ⊎_elim, arith}
+use Rattle.std.proofs.Common.{◌≡◌, ℕ, zero, suc, ◌+◌, ◌*◌, ◌^◌, ◌<◌, ◌≤◌, Bool, true, false, cond, eqb, List, ◌∷◌, map, length, get_or, take, Some, None, Option, sym, refl, ap, ◌∙◌, ⊎_elim, arith}
 use Rattle.std.proofs.lemmas.List.{get_or-take, length-take-le}
-use Rattle.std.proofs.lemmas.Bool.{cases_lt, lt-ltb, le-ltb, ne_eqb, cond-true, cond-false, eqb-true}
+use Rattle.std.proofs.lemmas.Bool.{cases_lt, lt-ltb, le-ltb, ne_eqb, cond-false, eqb-true}
 use Rattle.std.specs.List.{range_with_len}
 use Rattle.words.proofs.Encoded.{Octets, four, bytes_of_words, word_in}
 use Rattle.words.specs.Words.{encoded, word_at}
@@ -77,12 +77,11 @@ duration_back d t limits fits k place word =
     (λ (lt : k < d.processors).
     let value : get_or ws (4 + k) 0 ≡ get_or t.durations k 0 = word ∙ get_or-take d.processors t.durations k 0 lt in
     let small : get_or ws (4 + k) 0 < 2 ^ 32 = omega (arith, fits.given k lt, limits.0.1) in
-    cond-true (ltb k d.processors) (word_at (encoded ws) (16 + 4 * k)) 0 (lt-ltb k d.processors lt)
-    ∙ ap (word_at (encoded ws)) (sym place)
-    ∙ word_in ws (4 + k) (omega arith) small
-    ∙ value)
+    let here = lt-ltb k d.processors lt in
+    rw (here, ← place, word_in ws (4 + k) (omega arith) small) value)
     (λ (le : d.processors ≤ k).
-    cond-false (ltb k d.processors) (word_at (encoded ws) (16 + 4 * k)) 0 (le-ltb k d.processors le) ∙ sym (fits.unused k le))
+    let past = le-ltb k d.processors le in
+    rw past (sym (fits.unused k le)))
     (cases_lt k d.processors)
 
 pub task_back : (d : Dimensions) (t : Task) → DimensionsFit d → TaskFits d t → task_of d.processors (encoded (task_words d.processors t)) ≡ t

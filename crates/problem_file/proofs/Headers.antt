@@ -58,7 +58,4 @@ header_from file c f =
     let laid-c : laid_out file c ≡ true =
     let a = f.tasks in let b = f.windows in let d = f.dependencies in let e = f.exclusions in let g = f.ends in grind (arith, nat_tests) in
     let laid : laid_out file (stated_counts file) ≡ true = ap (laid_out file) f.stated ∙ laid-c in
-    ap (λ b. cond b (Err Kind) (cond (not (counts_in_range (stated_counts file))) (Err Count) (cond (not (laid_out file (stated_counts file))) (Err Layout) (Ok (stated_counts file))))) kind
-    ∙ ap (λ b. cond (not b) (Err Count) (cond (not (laid_out file (stated_counts file))) (Err Layout) (Ok (stated_counts file)))) counts
-    ∙ ap (λ b. cond (not b) (Err Layout) (Ok (stated_counts file))) laid
-    ∙ ap Ok f.stated
+    rw (kind, counts, laid) (ap Ok f.stated)

@@ -31,7 +31,7 @@ impl Header {
     }
 
     /// How many records there are.
-    pub(crate) fn records(&self) -> usize
+    pub(crate) fn total(&self) -> usize
         ensures { result ≡ total self.now.counts }
     {
         self.first(Section::Exclusions) + self.counts.exclusions as usize
@@ -47,7 +47,7 @@ impl Header {
             Some(Section::Windows)
         } else if index < self.first(Section::Exclusions) {
             Some(Section::Dependencies)
-        } else if index < self.records() {
+        } else if index < self.total() {
             Some(Section::Exclusions)
         } else {
             None

@@ -4,6 +4,6 @@
 pub mod confinement;
 pub mod fault;
 pub mod pair;
-pub mod scope;
+mod scope;
 pub mod scoped;
 pub mod waiver;

@@ -6,7 +6,7 @@ ghost use Rattle.problem.specs.Model.{model};
 use problem::problem::Problem;
 
 /// The places at which a rule counts.
-pub trait Scope {
+pub(crate) trait Scope {
     /// A place that names these tasks is one of them.
     ghost Covers: { Self → Model → ℕ → List ℕ → Type 0 };
 

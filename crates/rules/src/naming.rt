@@ -30,7 +30,6 @@ pub fn first_broken_naming<R: Rule>(book: &R, table: &Table, first: u32, second:
     ensures found { FoundNaming (R.Rule.meaning book.now) (problem_of table.now) (rows_of table.now) first second result }
     ensures whole { FoundAfterChange (R.Rule.meaning book.now) (problem_of table.now) (rows_of table.now) first second result }
 {
-    (0..book.count(&table.problem)).find(|place| is_broken_naming(
-        book, table, *place, first, second,
-    ))
+    let mut places = 0..book.count(&table.problem);
+    places.find(|place| is_broken_naming(book, table, *place, first, second))
 }

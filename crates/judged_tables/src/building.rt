@@ -39,21 +39,15 @@ fn problem(heap: Global, records: Records, change: Option<Change>) -> anyhow::Re
     open(heap, &file).map_err(|_| anyhow!("the problem does not open"))
 }
 
-/// Gives a task its row, and answers whether that has lawful shape.
-fn put(heap: Global, table: &mut Table, entry: &Entry) -> anyhow::Result<bool> {
-    let (task, processor, dates) = *entry;
-    let mut parts = Vec::new(heap);
-    for (begin, end) in dates {
-        parts.push(Part {
+/// The parts from these dates.
+fn parts(heap: Global, dates: &[(u32, u32)]) -> Result<Vec<Part>, AllocError> {
+    dates
+        .iter()
+        .map(|(begin, end)| Part {
             begin: *begin,
             end: *end,
-        })?;
-    }
-    let row = Row {
-        processor,
-        parts: &parts,
-    };
-    Ok(table.put(task, row).is_ok())
+        })
+        .collect(heap)
 }
 
 /// The table with the rows of a case, or nothing where a row has not lawful shape.
@@ -64,8 +58,13 @@ pub(crate) fn table(
     rows: &[Entry],
 ) -> anyhow::Result<Option<Table>> {
     let mut table = Table::empty(heap, problem(heap, records, change)?)?;
-    for entry in rows {
-        if !put(heap, &mut table, entry)? {
+    for (task, processor, dates) in rows {
+        let parts = parts(heap, dates)?;
+        let row = Row {
+            processor: *processor,
+            parts: &parts,
+        };
+        if table.put(*task, row).is_err() {
             return Ok(None);
         }
     }

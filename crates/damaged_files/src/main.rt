@@ -7,21 +7,21 @@ use cases::Case;
 use report::check;
 use std::alloc::{AllocError, Global};
 
+/// Puts records of one length behind the words.
+fn append<const N: usize>(words: &mut Vec<u32>, records: &[[u32; N]]) -> Result<(), AllocError> {
+    for record in records {
+        words.extend_from_slice(record)?;
+    }
+    Ok(())
+}
+
 /// The words of the good file.
 fn good(heap: Global) -> Result<Vec<u32>, AllocError> {
     let mut words = Vec::from_slice(heap, &cases::HEADER)?;
-    for task in &cases::TASKS {
-        words.extend_from_slice(task)?;
-    }
-    for window in &cases::WINDOWS {
-        words.extend_from_slice(window)?;
-    }
-    for dependency in &cases::DEPENDENCIES {
-        words.extend_from_slice(dependency)?;
-    }
-    for exclusion in &cases::EXCLUSIONS {
-        words.extend_from_slice(exclusion)?;
-    }
+    append(&mut words, &cases::TASKS)?;
+    append(&mut words, &cases::WINDOWS)?;
+    append(&mut words, &cases::DEPENDENCIES)?;
+    append(&mut words, &cases::EXCLUSIONS)?;
     Ok(words)
 }
 
@@ -39,19 +39,13 @@ fn damaged(heap: Global, cases: &[Case]) -> Result<Vec<u8>, AllocError> {
 /// The words of the largest file: the windows of a processor follow one another tick by tick.
 fn largest(heap: Global) -> Result<Vec<u32>, AllocError> {
     let mut words = Vec::from_slice(heap, &cases::LARGEST)?;
-    for _ in 0..64 {
-        words.extend_from_slice(&cases::LARGEST_TASK)?;
-    }
+    append(&mut words, &[cases::LARGEST_TASK; 64])?;
     for window in 0..64 {
         let begin = window % 16;
-        words.extend_from_slice(&[window / 16, 7, begin, begin + 1])?;
+        append(&mut words, &[[window / 16, 7, begin, begin + 1]])?;
     }
-    for _ in 0..256 {
-        words.extend_from_slice(&cases::LARGEST_DEPENDENCY)?;
-    }
-    for _ in 0..128 {
-        words.extend_from_slice(&cases::LARGEST_EXCLUSION)?;
-    }
+    append(&mut words, &[cases::LARGEST_DEPENDENCY; 256])?;
+    append(&mut words, &[cases::LARGEST_EXCLUSION; 128])?;
     Ok(words)
 }
 

@@ -24,11 +24,7 @@ impl Rule for Dependencies {
     }
 
     fn label(&self, problem: &Problem, place: u32) -> Label {
-        if place < self.count(problem) {
-            Label { rule: 7, place }
-        } else {
-            Label { rule: 0, place }
-        }
+        Label::of(7, place, self.count(problem))
     }
 
     fn tasks(&self, problem: &Problem, place: u32) -> [u32; 2] {

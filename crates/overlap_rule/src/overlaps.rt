@@ -25,11 +25,7 @@ impl Rule for Overlaps {
     }
 
     fn label(&self, problem: &Problem, place: u32) -> Label {
-        if place < self.count(problem) {
-            Label { rule: 8, place }
-        } else {
-            Label { rule: 0, place }
-        }
+        Label::of(8, place, self.count(problem))
     }
 
     fn tasks(&self, problem: &Problem, place: u32) -> [u32; 2] {

@@ -43,14 +43,7 @@ impl<R: TaskRule> Rule for R {
     }
 
     fn label(&self, problem: &Problem, place: u32) -> Label {
-        if place < problem.dimensions.tasks {
-            Label {
-                rule: R::NUMBER,
-                place,
-            }
-        } else {
-            Label { rule: 0, place }
-        }
+        Label::of(R::NUMBER, place, self.count(problem))
     }
 
     fn tasks(&self, problem: &Problem, place: u32) -> [u32; 2] {

@@ -1,10 +1,27 @@
--- An option is one value or none.
-use Rattle.std.proofs.Common.{◌≡◌, Some, None, Option}
+-- How a place of a rule with a place for each task is judged, where the rule's own test may speak of the frame.
+use Rattle.std.proofs.Common.{◌≡◌, ℕ, None, sym, subst}
+use Rattle.problem.specs.declared.task.Task.{Task}
+use Rattle.problem.specs.Limits.{Model}
+use Rattle.problem.specs.Lookup.{task_at}
+use Rattle.table.specs.declared.placed.Placed.{Placed}
+use Rattle.table.specs.Placed.{PlacedAs}
+use Rattle.table.specs.Row.{row_model}
+use Rattle.table.specs.Rows.{RowModel, Rows, row_at}
+use Rattle.rules.specs.EachTask.{of_each_task}
+use Rattle.rules.specs.Judged.{Keeps, Breaks}
 
--- a task without a row has no row
-pub none_some : {X : Type 0} (o : Option X) (x : X) → o ≡ None → o ≡ Some x → ⊥
-none_some o x p q = absurd (cc)
+module _ (rule : ℕ) (Wanted : Model → Task → RowModel → ℕ → Type 0) (p : Model) (rows : Rows) (t : ℕ) where
+  -- a place without a row is kept
+  pub each_absent : row_at rows t ≡ None → Keeps (of_each_task rule Wanted) p rows t
+  each_absent none n h row e = absurd (cc)
 
--- an option has one value at most
-pub one_some : {X : Type 0} (o : Option X) (x y : X) → o ≡ Some x → o ≡ Some y → x ≡ y
-one_some o x y p q = cc
+  -- a row that is wanted in every frame keeps its place
+  pub each_kept : (x : Placed) → PlacedAs p rows t x → ((n : ℕ) → Wanted p x.task (row_model x.row) n) → Keeps (of_each_task rule Wanted) p rows t
+  each_kept x at wanted n h row e =
+      let one : row_model x.row ≡ row = cc in
+      subst (λ (r : RowModel). Wanted p (task_at p t) r n) one (subst (λ (task : Task). Wanted p task (row_model x.row) n) at.task (wanted n))
+
+  -- a row that is not wanted in some frame breaks it
+  pub each_broken : (x : Placed) → PlacedAs p rows t x → (n : ℕ) → (Wanted p x.task (row_model x.row) n → ⊥) → Breaks (of_each_task rule Wanted) p rows t
+  each_broken x at n unwanted =
+      (n, λ kept. unwanted (subst (λ (task : Task). Wanted p task (row_model x.row) n) (sym at.task) (kept at.number (row_model x.row) at.row)))

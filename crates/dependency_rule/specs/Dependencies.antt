@@ -1,4 +1,4 @@
-use Rattle.std.specs.Prelude.{◌≡◌, ℕ, ◌+◌, ◌*◌, ◌≤◌, cond, [], ◌∷◌, length, Some, ◌==◌}
+use Rattle.std.specs.Prelude.{◌≡◌, ℕ, ◌+◌, ◌*◌, ◌≤◌, if◌then◌else◌, [], ◌∷◌, length, Some, ◌==◌}
 use Rattle.problem.specs.declared.dependency.Dependency.{Dependency}
 use Rattle.problem.specs.Lookup.{dependency_at}
 use Rattle.problem.specs.Limits.{Model}
@@ -7,7 +7,7 @@ use Rattle.rules.specs.Meaning.{Meaning}
 
 -- the transfer time between two rows: none on one processor
 abbrev pub transfer_time : Dependency → RowModel → RowModel → ℕ
-transfer_time x from to = cond (from.processor == to.processor) 0 x.transfer
+transfer_time x from to = (if from.processor == to.processor then 0 else x.transfer)
 
 -- in frame `n`, the end of the source's instance `n`, plus the transfer time, is at most the start of the destination's instance `n` + depth
 abbrev pub InOrder : ℕ → Dependency → RowModel → RowModel → ℕ → Type 0

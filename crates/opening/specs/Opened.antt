@@ -1,4 +1,4 @@
-use Rattle.std.specs.Prelude.{ℕ, zero, suc, ◌+◌, Bool, false, cond, not, List, map, length, Some, None, Ok, Err, Option, Result, slice_index_or}
+use Rattle.std.specs.Prelude.{ℕ, zero, suc, ◌+◌, Bool, false, if◌then◌else◌, not, List, map, length, Some, None, Ok, Err, Option, Result, slice_index_or}
 use Rattle.std.specs.List.{range_with_len}
 use Rattle.std.specs.Option.{option_map, option_or}
 use Rattle.problem.specs.declared.dependency.Dependency.{Dependency}
@@ -48,7 +48,7 @@ stated c file = record {
 -- the lowest number below `n` that passes the test
 unfoldable pub lowest : (ℕ → Bool) → ℕ → Option ℕ
 lowest test zero = None
-lowest test (suc n) = option_or (lowest test n) (cond (test n) (Some n) None)
+lowest test (suc n) = option_or (lowest test n) (if test n then Some n else None)
 
 -- a record that is there has a field outside its range
 abbrev pub outside : Counts → Option Shown → Bool

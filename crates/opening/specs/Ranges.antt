@@ -1,4 +1,4 @@
-use Rattle.std.specs.Prelude.{ℕ, ◌*◌, ◌≤◌, Bool, true, cond, not, ◌&&◌, ◌||◌, List, Some, None, Option, MatchOption, ◌==◌, nat_le, nat_lt, slice_index}
+use Rattle.std.specs.Prelude.{ℕ, ◌*◌, ◌≤◌, Bool, true, if◌then◌else◌, not, ◌&&◌, ◌||◌, List, Some, None, Option, MatchOption, ◌==◌, nat_le, nat_lt, slice_index}
 use Rattle.words.specs.Words.{read_at, word_at}
 use Rattle.problem.specs.declared.dependency.Dependency.{Dependency}
 use Rattle.problem.specs.declared.dimensions.Dimensions.{Dimensions}
@@ -34,7 +34,7 @@ deadline_in_range frame (Some date) = nat_le 1 date && nat_le date (4 * frame)
 
 -- the longest duration on processor `k`: a frame, or 0 past the last processor
 abbrev pub longest : Dimensions → ℕ → ℕ
-longest d k = cond (nat_lt k d.processors) d.frame 0
+longest d k = (if nat_lt k d.processors then d.frame else 0)
 
 -- every field of a task is in its range
 abbrev pub task_in_range : Dimensions → Task → Bool

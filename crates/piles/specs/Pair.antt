@@ -1,4 +1,4 @@
-use Rattle.std.specs.Prelude.{◌≡◌, ℕ, ◌+◌, ◌-◌, ◌<◌, ◌≤◌, min, cond, nat_lt, Some, None, Option}
+use Rattle.std.specs.Prelude.{◌≡◌, ℕ, ◌+◌, ◌-◌, ◌<◌, ◌≤◌, min, cond, if◌then◌else◌, nat_lt, Some, None, Option}
 use Rattle.problem.specs.Limits.{Model}
 use Rattle.rules.specs.Meaning.{Meaning}
 use Rattle.piles.specs.declared.pair.Side.{Side}
@@ -8,8 +8,8 @@ use Rattle.piles.specs.declared.pair.Side.TheVariants.{First, Second}
 abbrev pub paired : Meaning → Meaning → Meaning
 paired a b = record {
   count = λ p. min (a.count p + b.count p) 65537;
-  label = λ p k. cond (nat_lt k (a.count p)) (a.label p k) (b.label p (k - a.count p));
-  tasks = λ p k. cond (nat_lt k (a.count p)) (a.tasks p k) (b.tasks p (k - a.count p));
+  label = λ p k. (if nat_lt k (a.count p) then a.label p k else b.label p (k - a.count p));
+  tasks = λ p k. (if nat_lt k (a.count p) then a.tasks p k else b.tasks p (k - a.count p));
   kept = λ p rows k n. cond (nat_lt k (a.count p)) (a.kept p rows k n) (b.kept p rows (k - a.count p) n);
 }
 

@@ -1,4 +1,4 @@
-use Rattle.std.specs.Prelude.{ℕ, false, cond, [], ◌∷◌, length, Some, None, Option, nat_lt, slice_index, slice_index_or}
+use Rattle.std.specs.Prelude.{ℕ, false, if◌then◌else◌, [], ◌∷◌, length, Some, None, Option, nat_lt, slice_index, slice_index_or}
 use Rattle.problem.specs.declared.dependency.Dependency.{Dependency}
 use Rattle.problem.specs.declared.exclusion.Exclusion.{Exclusion}
 use Rattle.problem.specs.declared.task.Task.{Task}
@@ -27,7 +27,7 @@ task_at p t = slice_index_or p.tasks t no_task
 
 -- task `t` of the problem, if it has one
 abbrev pub task_in : Model → ℕ → Option Task
-task_in p t = cond (nat_lt t (length p.tasks)) (Some (task_at p t)) None
+task_in p t = (if nat_lt t (length p.tasks) then Some (task_at p t) else None)
 
 -- the task's duration on a processor, and 0 past the last
 abbrev pub duration_on : Task → ℕ → ℕ
@@ -39,4 +39,4 @@ dependency_at p d = slice_index_or p.dependencies d no_dependency
 
 -- dependency `d` of the problem, if it has one
 abbrev pub dependency_in : Model → ℕ → Option Dependency
-dependency_in p d = cond (nat_lt d (length p.dependencies)) (Some (dependency_at p d)) None
+dependency_in p d = (if nat_lt d (length p.dependencies) then Some (dependency_at p d) else None)

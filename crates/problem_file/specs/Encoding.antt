@@ -1,4 +1,4 @@
-use Rattle.std.specs.Prelude.{ℕ, ◌+◌, Bool, cond, List, [], ◌∷◌, ◌++◌, length, take, Some, None, Option}
+use Rattle.std.specs.Prelude.{ℕ, ◌+◌, Bool, if◌then◌else◌, List, [], ◌∷◌, ◌++◌, length, take, Some, None, Option}
 use Rattle.std.specs.List.{flat_map}
 use Rattle.words.specs.Words.{encoded}
 use Rattle.problem.specs.declared.dependency.Dependency.{Dependency}
@@ -9,7 +9,7 @@ use Rattle.problem.specs.Limits.{Model}
 
 -- the mark of a task that may not be preempted is 1, of another 0
 abbrev pub mark : Bool → ℕ
-mark whole = cond whole 1 0
+mark whole = (if whole then 1 else 0)
 
 -- the word of a deadline: the largest word where there is none
 abbrev pub deadline_word : Option ℕ → ℕ

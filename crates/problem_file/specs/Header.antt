@@ -1,4 +1,4 @@
-use Rattle.std.specs.Prelude.{ℕ, Bool, cond, not, ◌&&◌, ◌||◌, List, length, Ok, Err, Result, ◌==◌, nat_le, nat_lt}
+use Rattle.std.specs.Prelude.{ℕ, Bool, if◌then◌else◌, not, ◌&&◌, ◌||◌, List, length, Ok, Err, Result, ◌==◌, nat_le, nat_lt}
 use Rattle.words.specs.Words.{word_at}
 use Rattle.problem_file.specs.declared.counts.Counts.{Counts}
 use Rattle.problem_file.specs.declared.fault.FileFault.{FileFault}
@@ -47,7 +47,7 @@ laid_out file c =
 -- the header's numbers, or the first of the faults in the file's form
 abbrev pub header_of : List ℕ → Result Counts FileFault
 header_of file =
-    cond (nat_lt (length file) 48 || not (word_at file 0 == 1)) (Err Kind)
-    (cond (not (counts_in_range (stated_counts file))) (Err Count)
-    (cond (not (laid_out file (stated_counts file))) (Err Layout)
-    (Ok (stated_counts file))))
+    (if nat_lt (length file) 48 || not (word_at file 0 == 1) then Err Kind
+    else (if not (counts_in_range (stated_counts file)) then Err Count
+    else (if not (laid_out file (stated_counts file)) then Err Layout
+    else Ok (stated_counts file))))

@@ -1,4 +1,4 @@
-use Rattle.std.specs.Prelude.{ℕ, ◌+◌, ◌-◌, ◌*◌, ◌≤◌, cond, List, length, take, drop, Some, None, Option, nat_lt}
+use Rattle.std.specs.Prelude.{ℕ, ◌+◌, ◌-◌, ◌*◌, ◌≤◌, if◌then◌else◌, List, length, take, drop, Some, None, Option, nat_lt}
 use Rattle.problem.specs.Limits.{DimensionsFit}
 use Rattle.problem_file.specs.declared.counts.Counts.{Counts}
 use Rattle.problem_file.specs.declared.layout.Section.{Section}
@@ -47,10 +47,10 @@ file_end c = start c Exclusions + 12 * c.exclusions
 -- the section that record `i` stands in
 abbrev pub section_of : Counts → ℕ → Option Section
 section_of c i =
-    cond (nat_lt i (first c Windows)) (Some Tasks)
-    (cond (nat_lt i (first c Dependencies)) (Some Windows)
-    (cond (nat_lt i (first c Exclusions)) (Some Dependencies)
-    (cond (nat_lt i (total c)) (Some Exclusions) None)))
+    (if nat_lt i (first c Windows) then Some Tasks
+    else (if nat_lt i (first c Dependencies) then Some Windows
+    else (if nat_lt i (first c Exclusions) then Some Dependencies
+    else (if nat_lt i (total c) then Some Exclusions else None))))
 
 -- where record `i`, which stands in section `s`, begins
 abbrev pub record_at : Counts → Section → ℕ → ℕ
@@ -62,4 +62,4 @@ record_bytes c file s i = take (size c s) (drop (record_at c s i) file)
 
 -- those bytes, where all of them are there
 abbrev pub bytes_in : Counts → List ℕ → Section → ℕ → Option (List ℕ)
-bytes_in c file s i = cond (nat_lt (length file) (record_at c s i + size c s)) None (Some (record_bytes c file s i))
+bytes_in c file s i = (if nat_lt (length file) (record_at c s i + size c s) then None else Some (record_bytes c file s i))

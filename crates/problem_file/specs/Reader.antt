@@ -1,4 +1,4 @@
-use Rattle.std.specs.Prelude.{◌≡◌, ℕ, ◌+◌, Bool, cond, List, is_some, Option}
+use Rattle.std.specs.Prelude.{◌≡◌, ℕ, ◌+◌, Bool, if◌then◌else◌, List, is_some, Option}
 use Rattle.std.specs.Borrow.{Bor}
 use Rattle.std.specs.Option.{option_map}
 use Rattle.problem_file.specs.declared.header.Header.{Header}
@@ -14,7 +14,7 @@ standing file header i = record { file = file; header = header; position = i }
 pub record Stepped (some : Bool) (before after : Reader) : Type 0 where
   pub file : after.file ≡ before.file
   pub header : after.header ≡ before.header
-  pub position : after.position ≡ before.position + cond some 1 0
+  pub position : after.position ≡ before.position + (if some then 1 else 0)
 
 -- a reader shows the record at its position, or nothing where there is none, and steps on
 pub record Reads (before : Reader) (result : Option Record) (after : Reader) : Type 0 where

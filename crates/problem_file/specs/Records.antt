@@ -1,4 +1,4 @@
-use Rattle.std.specs.Prelude.{ℕ, ◌+◌, ◌*◌, cond, List, [], ◌∷◌, Some, None, Option, ◌==◌, nat_lt}
+use Rattle.std.specs.Prelude.{ℕ, ◌+◌, ◌*◌, if◌then◌else◌, List, [], ◌∷◌, Some, None, Option, ◌==◌, nat_lt}
 use Rattle.std.specs.Option.{option_map}
 use Rattle.words.specs.Words.{word_at}
 use Rattle.problem.specs.declared.dependency.Dependency.{Dependency}
@@ -15,11 +15,11 @@ use Rattle.problem_file.specs.Layout.{bytes_in, section_of}
 
 -- the deadline that a word states: the largest word stands for none
 abbrev pub deadline_of : ℕ → Option ℕ
-deadline_of word = cond (word == 4294967295) None (Some word)
+deadline_of word = (if word == 4294967295 then None else Some word)
 
 -- the duration on processor `k` of `p`, and 0 past the last
 abbrev pub duration_or : List ℕ → ℕ → ℕ → ℕ
-duration_or bytes p k = cond (nat_lt k p) (word_at bytes (16 + 4 * k)) 0
+duration_or bytes p k = (if nat_lt k p then word_at bytes (16 + 4 * k) else 0)
 
 -- the task that the bytes state, for `p` processors
 abbrev pub task_of : ℕ → List ℕ → Task

@@ -1,4 +1,4 @@
-use Rattle.std.specs.Prelude.{◌≡◌, ℕ, ◌<◌, cond, List, [], ◌∷◌, None, nat_lt}
+use Rattle.std.specs.Prelude.{◌≡◌, ℕ, ◌<◌, if◌then◌else◌, List, [], ◌∷◌, None, nat_lt}
 use Rattle.std.specs.List.{ContainsAt as Has}
 use Rattle.problem.specs.Limits.{Model}
 use Rattle.table.specs.Rows.{Rows, row_at, Agree}
@@ -26,11 +26,11 @@ Absence m =
 
 -- the label of a place; one at or above the count has rule 0 and its own number
 abbrev pub label_of : Meaning → Model → ℕ → Label
-label_of m p k = cond (nat_lt k (m.count p)) (m.label p k) (record { rule = 0; place = k })
+label_of m p k = (if nat_lt k (m.count p) then m.label p k else record { rule = 0; place = k })
 
 -- the tasks that a place names; one at or above the count names task 0 twice
 abbrev pub tasks_of : Meaning → Model → ℕ → List ℕ
-tasks_of m p k = cond (nat_lt k (m.count p)) (m.tasks p k) (0 ∷ 0 ∷ [])
+tasks_of m p k = (if nat_lt k (m.count p) then m.tasks p k else 0 ∷ 0 ∷ [])
 
 -- a place names a task
 abbrev pub Names : Meaning → Model → ℕ → ℕ → Type 0

@@ -1,4 +1,4 @@
-use Rattle.std.specs.Prelude.{◌≡◌, ℕ, ◌-◌, List, length, get_or, replicate, None, Option, slice_index_or}
+use Rattle.std.specs.Prelude.{◌≡◌, ℕ, ◌-◌, List, length, replicate, None, Option, slice_index_or}
 use Rattle.problem.specs.Limits.{Model}
 use Rattle.table.specs.declared.part.Part.{Part}
 
@@ -29,8 +29,8 @@ no_part = record { begin = 0; end = 0 }
 
 -- when a row starts: its first begin
 abbrev pub start_of : RowModel → ℕ
-start_of row = (get_or row.parts 0 no_part).begin
+start_of row = (slice_index_or row.parts 0 no_part).begin
 
 -- when a row ends: its last end
 abbrev pub end_of : RowModel → ℕ
-end_of row = (get_or row.parts (length row.parts - 1) no_part).end
+end_of row = (slice_index_or row.parts (length row.parts - 1) no_part).end

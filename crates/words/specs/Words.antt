@@ -1,4 +1,4 @@
-use Rattle.std.specs.Prelude.{ℕ, ◌+◌, ◌*◌, ◌/◌, ◌%◌, cond, List, [], ◌∷◌, length, Some, None, Option, nat_le, slice_index}
+use Rattle.std.specs.Prelude.{ℕ, ◌+◌, ◌*◌, ◌/◌, ◌%◌, if◌then◌else◌, List, [], ◌∷◌, length, Some, None, Option, nat_le, slice_index}
 use Rattle.std.specs.List.{flat_map}
 
 -- the word whose four bytes begin at byte `at`, the lowest byte first
@@ -7,7 +7,7 @@ word_at bytes at = slice_index bytes at + slice_index bytes (at + 1) * 256 + sli
 
 -- that word, where all its four bytes are there
 abbrev pub read_at : List ℕ → ℕ → Option ℕ
-read_at bytes at = cond (nat_le (at + 4) (length bytes)) (Some (word_at bytes at)) None
+read_at bytes at = (if nat_le (at + 4) (length bytes) then Some (word_at bytes at) else None)
 
 -- the four bytes of a word, the lowest first
 unfoldable pub word_bytes : ℕ → List ℕ

@@ -38,6 +38,7 @@ impl Rule for Overlaps {
     }
 
     fn judge(&self, table: &Table, place: u32) -> Judgement {
+        // Past the count both tasks are task 0, so such a place is kept too.
         let [i, j] = self.tasks(&table.problem, place);
         if i >= j {
             return Judgement::Kept;

@@ -7,6 +7,8 @@ use Rattle.problem.specs.Limits.{Model}
 use Rattle.rules.specs.Meaning.{Meaning, Reach, Absence}
 use Rattle.piles.specs.Pair.{paired}
 use Rattle.piles.specs.Scoped.{scoped}
+use Rattle.piles.specs.Confinement.{Inside, confined}
+use Rattle.piles.specs.Waiver.{NotListed, waived}
 
 module _ (a b : Meaning) where
   -- a pair has reach if both its rules have
@@ -33,3 +35,19 @@ module _ (Covers : Model → ℕ → List ℕ → Type 0) (m : Meaning) where
   -- a rule in a scope has absence if the lower rule has
   pub scoped_absence : Absence m → Absence (scoped Covers m)
   scoped_absence absence p rows k n t s below has none covered = absence p rows k n t s below has none
+
+-- a waiver has reach if the rule below has
+pub waived_reach : (places : List ℕ) (m : Meaning) → Reach m → Reach (waived places m)
+waived_reach places m = scoped_reach (NotListed places) m
+
+-- a waiver has absence if the rule below has
+pub waived_absence : (places : List ℕ) (m : Meaning) → Absence m → Absence (waived places m)
+waived_absence places m = scoped_absence (NotListed places) m
+
+-- a confinement has reach if the rule below has
+pub confined_reach : (partition : ℕ) (m : Meaning) → Reach m → Reach (confined partition m)
+confined_reach partition m = scoped_reach (Inside partition) m
+
+-- a confinement has absence if the rule below has
+pub confined_absence : (partition : ℕ) (m : Meaning) → Absence m → Absence (confined partition m)
+confined_absence partition m = scoped_absence (Inside partition) m

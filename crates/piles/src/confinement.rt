@@ -1,4 +1,4 @@
-ghost use Rattle.piles.specs.Confinement.{AllIn};
+ghost use Rattle.piles.specs.Confinement.{Inside as IsInside};
 
 use crate::scope::Scope;
 use crate::scoped::Scoped;
@@ -14,7 +14,7 @@ pub struct Inside {
 }
 
 impl Scope for Inside {
-    ghost Covers = { λ s p _ tasks. AllIn s.partition p tasks };
+    ghost Covers = { λ s. IsInside s.partition };
 
     fn covers(&self, problem: &Problem, _place: u32, tasks: &[u32; 2]) -> bool {
         tasks.iter().all(|number| {

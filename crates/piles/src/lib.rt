@@ -6,4 +6,5 @@ pub mod fault;
 pub mod pair;
 mod scope;
 pub mod scoped;
+pub mod unlisted;
 pub mod waiver;

@@ -15,7 +15,7 @@ pub struct Pair<A, B> {
     pub second: B,
 }
 
-/// A place of a pair, as the place of its first rule or of its second that it is.
+/// Where a place of a pair stands: at this place of its first rule, or at this place of its second.
 #[derive(Clone, Copy)]
 enum Side {
     First(u32),

@@ -1,22 +1,17 @@
 ghost use Rattle.piles.specs.Waive.{Waives};
-ghost use Rattle.piles.specs.Waiver.{listed};
+ghost use Rattle.piles.specs.Waiver.{NotListed, listed};
 ghost use Rattle.std.specs.Prelude.{◌≡◌, ◌↔◌, IsTrue, []};
 ghost use Rattle.std.specs.List.{ContainsAt as Has};
 
 use crate::fault::WaiverFull;
 use crate::scope::Scope;
 use crate::scoped::Scoped;
+use crate::unlisted::Unlisted;
 use arrayvec::ArrayVec;
 use problem::problem::Problem;
 
 /// A rule of which up to 16 places are waived.
 pub type Waiver<R> = Scoped<R, Unlisted>;
-
-/// The places that are not listed.
-#[derive(Drop)]
-pub struct Unlisted {
-    pub(crate) places: ArrayVec<u32, 16>,
-}
 
 impl Unlisted {
     /// The place is listed.
@@ -28,7 +23,7 @@ impl Unlisted {
 }
 
 impl Scope for Unlisted {
-    ghost Covers = { λ s _ place _. Has s.places.items place → ⊥ };
+    ghost Covers = { λ s. NotListed s.places.items };
 
     fn covers(&self, _problem: &Problem, place: u32, _tasks: &[u32; 2]) -> bool {
         !self.lists(place)

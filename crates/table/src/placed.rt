@@ -6,7 +6,7 @@ use crate::row::Row;
 use problem::problem::Problem;
 use problem::task::Task;
 
-/// A task that has a row, with that row and the problem. The row has lawful shape: whatever holds it placed knows that.
+/// A task that has a row, with that row and the problem. The row has lawful shape: whoever holds a placed row knows that.
 #[derive(Clone, Copy)]
 pub struct Placed<'a> {
     pub problem: &'a Problem,

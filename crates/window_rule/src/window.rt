@@ -12,7 +12,7 @@ use table::placed::Placed;
 pub struct Windows;
 
 /// A window of the task's partition on the row's processor serves the part where it lies in the frame in which it begins.
-/// Windows end with the frame, so a part that crosses its end lies inside none.
+/// A window ends by the end of the frame, so a part that runs past the end of the frame in which it begins lies inside none.
 fn is_served(placed: &Placed<'_>, part: &Part) -> bool
     ensures { result ≡ served (model placed.now.problem.now) placed.now.task.partition placed.now.row.processor part.now }
 {

@@ -1,4 +1,4 @@
-ghost use Rattle.report.specs.Refusals.{letter, of_file, of_record, refusal_of};
+ghost use Rattle.report.specs.Refusals.{letter, refusal_of};
 ghost use Rattle.std.specs.Prelude.{◌≡◌, Some};
 
 use opening::fault::{Fault, ProblemFault};
@@ -33,42 +33,22 @@ pub struct Refusal {
     pub label: Option<Label>,
 }
 
-impl Refusal {
-    /// A fault of a file's form, which has no position.
-    fn of_file(number: u32) -> Refusal
-        ensures { result ≡ of_file number }
-    {
-        Refusal {
-            number,
-            layer: Layer::File,
-            position: None,
-            label: None,
-        }
-    }
-
-    /// A fault of a problem's record.
-    fn of_record(number: u32, position: usize) -> Refusal
-        ensures { result ≡ of_record number position }
-    {
-        Refusal {
-            number,
-            layer: Layer::Problem,
-            position: Some(position),
-            label: None,
-        }
-    }
-}
-
 impl From<Fault> for Refusal {
     ghost from_gives = { λ fault r. r ≡ refusal_of fault };
 
     fn from(fault: Fault) -> Refusal {
-        match fault {
-            Fault::File(FileFault::Kind) => Refusal::of_file(1),
-            Fault::File(FileFault::Count) => Refusal::of_file(2),
-            Fault::File(FileFault::Layout) => Refusal::of_file(3),
-            Fault::Problem(ProblemFault::Field { record }) => Refusal::of_record(4, record),
-            Fault::Problem(ProblemFault::Order { record }) => Refusal::of_record(5, record),
+        let (number, layer, position) = match fault {
+            Fault::File(FileFault::Kind) => (1, Layer::File, None),
+            Fault::File(FileFault::Count) => (2, Layer::File, None),
+            Fault::File(FileFault::Layout) => (3, Layer::File, None),
+            Fault::Problem(ProblemFault::Field { record }) => (4, Layer::Problem, Some(record)),
+            Fault::Problem(ProblemFault::Order { record }) => (5, Layer::Problem, Some(record)),
+        };
+        Refusal {
+            number,
+            layer,
+            position,
+            label: None,
         }
     }
 }

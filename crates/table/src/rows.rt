@@ -62,7 +62,7 @@ impl Table {
         if !row.has_lawful_shape(&dimensions) {
             return Err(PutFault::UnlawfulShape);
         }
-        let stored = StoredRow::keep(row).ok_or(PutFault::UnlawfulShape)?;
+        let stored = StoredRow::try_from(row)?;
         self.rows[task as usize] = Some(stored);
         Ok(())
     }

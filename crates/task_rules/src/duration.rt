@@ -19,7 +19,7 @@ impl TaskRule for Duration {
             .row
             .parts
             .iter()
-            .map(|part| u64::from(part.end.saturating_sub(part.begin)))
+            .map(|part| u64::from(part.ticks()))
             .sum();
         u64::from(placed.task.duration_on(placed.row.processor)) <= ticks
     }

@@ -17,7 +17,7 @@ fn is_served(placed: &Placed<'_>, part: &Part) -> bool
     ensures { result ≡ served (model placed.now.problem.now) placed.now.task.partition placed.now.row.processor part.now }
 {
     let begin = part.begin % placed.problem.dimensions().frame;
-    let end = u64::from(begin) + u64::from(part.end.saturating_sub(part.begin));
+    let end = u64::from(begin) + u64::from(part.ticks());
     placed.problem.windows.iter().any(|window| {
         window.partition == placed.task.partition
             && window.processor == placed.row.processor

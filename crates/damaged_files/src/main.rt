@@ -56,18 +56,18 @@ fn say(rt: &HostRuntime, title: &str, file: &[u8]) -> anyhow::Result<()> {
     Ok(())
 }
 
-/// The good file with one word replaced.
+/// Prints what is said of the good file with one word replaced.
 fn single(rt: &HostRuntime, case: &Case) -> anyhow::Result<()> {
     say(rt, case.0, &damaged(rt.alloc(), &[*case])?)
 }
 
-/// The good file with two words replaced.
+/// Prints what is said of the good file with two words replaced.
 fn double(rt: &HostRuntime, first: &Case, second: &Case) -> anyhow::Result<()> {
     let title = format!(in rt.alloc(); "{}, {}", first.0, second.0)?;
     say(rt, &title, &damaged(rt.alloc(), &[*first, *second])?)
 }
 
-/// The smallest file, cut off after each number of bytes.
+/// Prints what is said of the smallest file, cut off after each number of bytes.
 fn truncated(rt: &HostRuntime) -> anyhow::Result<()> {
     let mut words = Vec::from_slice(rt.alloc(), &cases::SMALLEST)?;
     words.extend_from_slice(&cases::SMALLEST_TASK)?;
@@ -79,14 +79,14 @@ fn truncated(rt: &HostRuntime) -> anyhow::Result<()> {
     Ok(())
 }
 
-/// The largest file, whole.
+/// Prints what is said of the largest file.
 fn whole(rt: &HostRuntime) -> anyhow::Result<()> {
     let bytes = words::encode(rt.alloc(), &largest(rt.alloc())?)?;
     let title = format!(in rt.alloc(); "the largest file, {} bytes", bytes.len())?;
     say(rt, &title, &bytes)
 }
 
-/// The good file with zeros behind it, up to a length.
+/// Prints what is said of the good file with zeros behind it, up to a length.
 fn lengthened(rt: &HostRuntime, length: usize) -> anyhow::Result<()> {
     let mut bytes = damaged(rt.alloc(), &[])?;
     bytes.resize(length, 0)?;

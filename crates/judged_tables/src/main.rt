@@ -56,10 +56,10 @@ fn judged(rt: &HostRuntime, records: Records, case: &Case) -> anyhow::Result<()>
     };
     let broken = first_broken_label(&table);
     say(rt, title, broken.into())?;
-    match broken {
-        Some(Label { rule: 8, place }) => meeting(rt, &table, place),
-        _ => Ok(()),
+    if let Some(Label { rule: 8, place }) = broken {
+        meeting(rt, &table, place)?;
     }
+    Ok(())
 }
 
 /// Judges the tables of cases for a problem, each with its change made.

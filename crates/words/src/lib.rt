@@ -33,7 +33,7 @@ mod tests {
     #[test]
     fn words_are_encoded_lowest_byte_first(rt: HostRuntime) -> Result<(), Fail> {
         let bytes = encode(rt.alloc(), &[1, 4_294_967_040])?;
-        assert!(rt; bytes.as_slice() == [1, 0, 0, 0, 0, 255, 255, 255].as_slice());
+        assert_eq!(rt; bytes.as_slice(), [1, 0, 0, 0, 0, 255, 255, 255].as_slice());
         Ok(())
     }
 }

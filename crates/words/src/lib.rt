@@ -1,7 +1,7 @@
 //! 32-bit little-endian words in slices of bytes.
 #![tactic(auto)]
 
-ghost use Rattle.words.specs.Words.{encoded, read_at};
+ghost use Rattle.words.specs.Words.{encoded, first_words, read_at};
 ghost use Rattle.std.specs.Prelude.{◌≡◌, IfOk};
 
 use std::alloc::{AllocError, Global};
@@ -12,6 +12,17 @@ pub fn read(bytes: &[u8], at: usize) -> Option<u32>
 {
     let word = bytes.get(at..)?.first_chunk()?;
     Some(u32::from_le_bytes(*word))
+}
+
+/// The first `N` words of the bytes, or nothing where the slice ends before the last of them.
+pub fn first<const N: usize>(bytes: &[u8]) -> Option<[u32; N]>
+    ensures { result ≡ first_words N bytes.now }
+{
+    let mut words = [0; N];
+    for (place, word) in words.iter_mut().enumerate() {
+        *word = read(bytes, 4 * place)?;
+    }
+    Some(words)
 }
 
 /// The bytes of words, one word after the other.

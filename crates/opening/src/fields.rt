@@ -12,8 +12,8 @@ pub(crate) fn check_fields(file: ProblemFile<'_>) -> Result<(), ProblemFault>
 {
     let dimensions = file.header.counts.dimensions;
     // Said with the trait's name, since a reader's own `position` is where it stands.
-    let first_misfit = Iterator::position(&mut file.records(), |record| {
-        !in_range(&record, &dimensions)
+    let first_misfit = Iterator::position(&mut file.records(), |read| {
+        !in_range(&read, &dimensions)
     });
     match first_misfit {
         Some(record) => Err(ProblemFault::Field { record }),

@@ -13,11 +13,11 @@ fn mark_fits(bytes: &[u8]) -> bool
 }
 
 /// Every field of the record is in its range.
-pub(crate) fn in_range(record: &Record<'_>, dimensions: &Dimensions) -> bool
-    ensures { IsTrue result ↔ Fits dimensions.now (shown «record».now) }
+pub(crate) fn in_range(read: &Record<'_>, dimensions: &Dimensions) -> bool
+    ensures { IsTrue result ↔ Fits dimensions.now (shown read.now) }
 {
-    match &record.item {
-        Item::Task(task) => mark_fits(record.bytes) && task.fits(dimensions),
+    match &read.item {
+        Item::Task(task) => mark_fits(read.bytes) && task.fits(dimensions),
         Item::Window(window) => window.fits(dimensions),
         Item::Dependency(dependency) => dependency.fits(dimensions),
         Item::Exclusion(exclusion) => exclusion.fits(dimensions),

@@ -20,6 +20,7 @@ impl Dimensions {
             && (1..=8).contains(&self.partitions)
             && (1..=64).contains(&self.tasks)
     }
+
     /// The longest duration that a task may have on a processor: a frame, and 0 past the last processor.
     pub(crate) fn longest_duration(&self, processor: usize) -> u32
         ensures given { processor < self.now.processors → result ≡ self.now.frame }

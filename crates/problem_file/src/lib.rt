@@ -11,4 +11,3 @@ pub mod read_file;
 pub mod read_header;
 pub mod reader;
 pub mod record;
-mod word;

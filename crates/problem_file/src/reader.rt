@@ -52,8 +52,8 @@ impl<'a> Iterator for Reader<'a> {
     fn next(&mut self) -> Option<Record<'a>> {
         let (section, place) = self.header.place(self.position)?;
         let bytes = self.file.get(place)?;
+        let item = self.header.decode(section, bytes)?;
         self.position += 1;
-        let item = self.header.decode(section, bytes);
         Some(Record { item, bytes })
     }
 }

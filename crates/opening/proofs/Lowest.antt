@@ -1,5 +1,5 @@
 -- The lowest number that passes a test.
-use Rattle.std.proofs.Common.{◌≡◌, ℕ, zero, suc, ◌+◌, ◌<◌, ◌≤◌, Bool, true, false, cond, Some, None, Option, sym, refl, ap, ◌∙◌, ⊎_elim, add-one, arith}
+use Rattle.std.proofs.Common.{◌≡◌, ℕ, zero, suc, ◌+◌, ◌<◌, Bool, true, false, cond, Some, None, Option, sym, refl, ap, ◌∙◌, ⊎_elim, add-one, arith}
 use Rattle.std.proofs.lemmas.Bool.{cases_eq}
 use Rattle.std.specs.Option.{option_map, option_or}
 use Rattle.opening.specs.Opened.{lowest}
@@ -47,10 +47,6 @@ each_fails test (suc n) none k lt =
     (λ (e : k ≡ n). ap test e ∙ not_found (test n) n both.1)
     (λ (ne : k ≡ n → ⊥). each_fails test n both.0 k (omega arith))
     (cases_eq k n)
-
--- none below n, so none below a lower number
-pub lowest_fewer : (test : ℕ → Bool) (m n : ℕ) → m ≤ n → lowest test n ≡ None → lowest test m ≡ None
-lowest_fewer test m n le none = lowest_none_from test m (λ k lt. each_fails test n none k (omega arith))
 
 -- where none is made of what was found, none was found
 pub mapped_none : {X Y : Type 0} (f : X → Y) (o : Option X) → option_map f o ≡ None → o ≡ None

@@ -3,7 +3,7 @@ use Rattle.std.proofs.Common.{◌≡◌, ℕ, zero, suc, ◌+◌, ◌-◌, ◌<�
 use Rattle.std.proofs.lemmas.List.FromFn.{length-map-range_with_len, get_or-map-range_with_len}
 use Rattle.std.proofs.lemmas.List.{get_or_default}
 use Rattle.std.proofs.lemmas.Bool.{cases_lt, not-false, not_from_true}
-use Rattle.std.proofs.ByRecursion.{All-get_or}
+use Rattle.std.proofs.lemmas.List.Elements.{All-from_recursion}
 use Rattle.std.specs.Option.{option_map}
 use Rattle.std.specs.List.{AllByRecursion}
 use Rattle.problem.specs.declared.window.Window.{Window}
@@ -70,7 +70,7 @@ in_order d ws fit none i j v lt below =
         subst (λ (k : ℕ). Follows (get_or ws i v) (get_or ws k v)) one (neighbours ws none i v (omega arith))
     steps (suc n) lt =
         let next : suc (i + suc n) ≡ i + suc (suc n) = omega arith in
-        let some = (All-get_or (WindowFits d) ws (i + suc n) v (omega arith) fit).some in
+        let some = (All-from_recursion (WindowFits d) ws fit (i + suc n) v (omega arith)).some in
         let last = subst (λ (k : ℕ). Follows (get_or ws (i + suc n) v) (get_or ws k v)) next (neighbours ws none (i + suc n) v (omega arith)) in
         then_follows (get_or ws i v) (get_or ws (i + suc n) v) (get_or ws (i + suc (suc n)) v) some (steps n (omega arith)) last
 

@@ -1,11 +1,11 @@
 -- The encoding of a problem within its limits opens, and gives that problem.
-use Rattle.std.proofs.Common.{◌≡◌, ℕ, ◌+◌, ◌-◌, ◌*◌, ◌^◌, ◌<◌, ◌≤◌, true, not, List, [], ◌∷◌, ◌++◌, map, length, get_or, take, drop, None, Ok, sym, refl, ap, ◌∙◌, subst, append_assoc, append-nil, arith, length-append}
+use Rattle.std.proofs.Common.{◌≡◌, ℕ, ◌+◌, ◌-◌, ◌*◌, ◌^◌, ◌<◌, ◌≤◌, true, not, List, [], ◌++◌, map, length, get_or, take, drop, None, Ok, sym, refl, ap, ◌∙◌, subst, append_assoc, append-nil, arith, length-append}
 use Rattle.std.proofs.lemmas.Nat.{mul-le}
 use Rattle.std.proofs.lemmas.List.FromFn.{length-map-range_with_len, get_or-map-range_with_len}
-use Rattle.std.proofs.ByRecursion.{All-get_or, All-weaker}
+use Rattle.std.proofs.lemmas.List.Elements.{All-from_recursion}
 use Rattle.std.proofs.lemmas.List.{drop-drop, drop_at, same_lists}
 use Rattle.std.proofs.lemmas.Bool.{le-leb}
-use Rattle.std.specs.List.{range_with_len, flat_map, AllByRecursion}
+use Rattle.std.specs.List.{range_with_len, flat_map, All, AllByRecursion}
 use Rattle.words.proofs.Chunks.{piece_of, length_pieces}
 use Rattle.words.proofs.Encoded.{length_encoded, words_of_bytes}
 use Rattle.words.specs.Words.{encoded, word_at}
@@ -40,25 +40,20 @@ counts_of m = record {
 }
 
 -- each record has the bytes that its section has for one
-tasks_long : (m : Model) → Within m → AllByRecursion (λ t. length (encoded (task_words m.dimensions.processors t)) ≡ 16 + 4 * m.dimensions.processors) m.tasks
-tasks_long m within =
-    All-weaker (TaskFits m.dimensions) (λ t. length (encoded (task_words m.dimensions.processors t)) ≡ 16 + 4 * m.dimensions.processors)
-    (λ t fits. length_encoded (task_words m.dimensions.processors t) ∙ omega (arith, task_words_lem m.dimensions t within.dimensions fits.durations))
-    m.tasks within.tasks
+tasks_long : (m : Model) → Within m → All (λ t. length (encoded (task_words m.dimensions.processors t)) ≡ 16 + 4 * m.dimensions.processors) m.tasks
+tasks_long m within k d lt =
+    let t : Task = get_or m.tasks k d in
+    let fits = All-from_recursion (TaskFits m.dimensions) m.tasks within.tasks k d lt in
+    length_encoded (task_words m.dimensions.processors t) ∙ omega (arith, task_words_lem m.dimensions t within.dimensions fits.durations)
 
--- what holds of every element
-always : {X : Type 0} (P : X → Type 0) → ((x : X) → P x) → (xs : List X) → AllByRecursion P xs
-always P each [] = tt
-always P each (x ∷ xs) = (each x, always P each xs)
+windows_long : (ws : List Window) → All (λ w. length (encoded (window_words w)) ≡ 16) ws
+windows_long ws k w lt = length_encoded (window_words (get_or ws k w))
 
-windows_long : (ws : List Window) → AllByRecursion (λ w. length (encoded (window_words w)) ≡ 16) ws
-windows_long = always _ (λ w. length_encoded (window_words w))
+dependencies_long : (xs : List Dependency) → All (λ x. length (encoded (dependency_words x)) ≡ 16) xs
+dependencies_long xs k x lt = length_encoded (dependency_words (get_or xs k x))
 
-dependencies_long : (xs : List Dependency) → AllByRecursion (λ x. length (encoded (dependency_words x)) ≡ 16) xs
-dependencies_long = always _ (λ x. length_encoded (dependency_words x))
-
-exclusions_long : (xs : List Exclusion) → AllByRecursion (λ x. length (encoded (exclusion_words x)) ≡ 12) xs
-exclusions_long = always _ (λ x. length_encoded (exclusion_words x))
+exclusions_long : (xs : List Exclusion) → All (λ x. length (encoded (exclusion_words x)) ≡ 12) xs
+exclusions_long xs k x lt = length_encoded (exclusion_words (get_or xs k x))
 
 -- how long the sections are
 record Long (m : Model) : Type 0 where
@@ -133,7 +128,7 @@ encode_formed m within =
     }
 
 -- a record of a section, between what precedes the section and what follows it
-in_section : {X : Type 0} (s n : ℕ) (w : X → List ℕ) (xs : List X) (file pre rest : List ℕ) → file ≡ pre ++ (flat_map w xs ++ rest) → length pre ≡ n → AllByRecursion (λ x. length (w x) ≡ s) xs → (j : ℕ) (d : X) → j < length xs → take s (drop (n + s * j) file) ≡ w (get_or xs j d)
+in_section : {X : Type 0} (s n : ℕ) (w : X → List ℕ) (xs : List X) (file pre rest : List ℕ) → file ≡ pre ++ (flat_map w xs ++ rest) → length pre ≡ n → All (λ x. length (w x) ≡ s) xs → (j : ℕ) (d : X) → j < length xs → take s (drop (n + s * j) file) ≡ w (get_or xs j d)
 in_section s n w xs file pre rest parts long each j d lt =
     ap (λ f. take s (drop (n + s * j) f)) parts
     ∙ ap (take s) (sym (drop-drop (s * j) n (pre ++ (flat_map w xs ++ rest))) ∙ ap (drop (s * j)) (drop_at pre (flat_map w xs ++ rest) n long))
@@ -195,7 +190,7 @@ unfolding counts_of
 task_at_lem m within i d lt =
     let t : Task = get_or m.tasks (i - 0) d in
     let bytes : List ℕ = record_bytes (counts_of m) (encode m) Tasks i in
-    let fits : TaskFits m.dimensions t = All-get_or (TaskFits m.dimensions) m.tasks (i - 0) d lt within.tasks in
+    let fits : TaskFits m.dimensions t = All-from_recursion (TaskFits m.dimensions) m.tasks within.tasks (i - 0) d lt in
     let e : bytes ≡ encoded (task_words m.dimensions.processors t) = task_record m within (i - 0) d lt in
     let same : task_of m.dimensions.processors bytes ≡ t = ap (task_of m.dimensions.processors) e ∙ task_back m.dimensions t within.dimensions fits in
     let long : 8 ≤ length bytes = omega (arith, ap length e, length_encoded (task_words m.dimensions.processors t), task_words_lem m.dimensions t within.dimensions fits.durations) in
@@ -205,7 +200,7 @@ task_at_lem m within i d lt =
 -- bytes that were written of an element in its range are read as that element
 read_back : {X : Type 0} (P : X → Type 0) (of : List ℕ → X) (words : X → List ℕ) (xs : List X) (bytes : List ℕ) → ((x : X) → P x → of (encoded (words x)) ≡ x) → AllByRecursion P xs → (j : ℕ) (d : X) → j < length xs → bytes ≡ encoded (words (get_or xs j d)) → (of bytes ≡ get_or xs j d) × P (of bytes)
 read_back P of words xs bytes back all j d lt e =
-    let fits = All-get_or P xs j d lt all in
+    let fits = All-from_recursion P xs all j d lt in
     let same : of bytes ≡ get_or xs j d = ap of e ∙ back (get_or xs j d) fits in
     (same, subst P (sym same) fits)
 

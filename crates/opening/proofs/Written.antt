@@ -4,7 +4,8 @@ use Rattle.std.proofs.lemmas.List.FromFn.{length-map-range_with_len}
 use Rattle.std.proofs.lemmas.List.{take-append-drop, drop-drop, drop_all, length-take-le}
 use Rattle.std.proofs.lemmas.Bool.{leb-true}
 use Rattle.std.specs.List.{range_with_len, flat_map}
-use Rattle.words.proofs.Chunks.{pieces_then, joined_map}
+use Rattle.words.proofs.Chunks.{pieces_then}
+use Rattle.std.proofs.lemmas.List.Folds.{flat_map-map}
 use Rattle.words.proofs.Encoded.{Octets, bytes_of_words, octets_part, word_of_part}
 use Rattle.words.specs.Words.{encoded, word_at}
 use Rattle.problem_file.proofs.Coded.{task_again, window_again, dependency_again, exclusion_again}
@@ -33,7 +34,7 @@ section_written c file s g w each =
     ap (take (size c s)) (drop-drop (size c s * i) (start c s) file ∙ ap (λ k. drop (start c s + size c s * k) file) index)
     ∙ each (first c s + i) (record { low = omega arith; high = omega arith }) in
     pieces_then (size c s) (count c s) (first c s) (drop (start c s) file) (λ i. w (g i)) piece
-    ∙ ap (λ ys. ys ++ drop (size c s * count c s) (drop (start c s) file)) (sym (joined_map w g (range_with_len (first c s) (count c s))))
+    ∙ ap (λ ys. ys ++ drop (size c s * count c s) (drop (start c s) file)) (sym (flat_map-map w g (range_with_len (first c s) (count c s))))
     ∙ ap (λ ys. flat_map w (map g (range_with_len (first c s) (count c s))) ++ ys) (drop-drop (size c s * count c s) (start c s) file)
 
 tasks_written : (c : Counts) (file : List ℕ) → Formed file c → Octets file → lowest (misfit c file) (total c) ≡ None → drop 48 file ≡ task_bytes (stated c file) ++ drop (start c Windows) file

@@ -1,8 +1,8 @@
 -- Whoever holds a problem knows that it is within its limits: the type keeps that fact in a form of which no two proofs differ, and here it comes out whole.
-use Rattle.std.proofs.Common.{◌≡◌, ℕ, List, [], ◌∷◌, Some, None, Option}
+use Rattle.std.proofs.Common.{◌≡◌, ℕ, List, Some, None, Option}
 use mathlib.Core.Logic.{∥∥₁_elim}
 use denote.Struct.Props.{props}
-use Rattle.std.specs.List.{AllByRecursion}
+use Rattle.std.specs.List.{AllByRecursion-prop}
 use Rattle.problem.specs.declared.dependency.Dependency.{Dependency}
 use Rattle.problem.specs.declared.dimensions.Dimensions.{Dimensions}
 use Rattle.problem.specs.declared.exclusion.Exclusion.{Exclusion}
@@ -14,10 +14,6 @@ use Rattle.problem.specs.Model.{model}
 
 pub same : {A : Type 0} (p q : A) → IsProp A → p ≡ q
 same p q one = one p q
-
-all_prop : {X : Type 0} (P : X → Type 0) → ((x : X) → IsProp (P x)) → (xs : List X) → IsProp (AllByRecursion P xs)
-all_prop P one [] p q = λ i. tt
-all_prop P one (x ∷ xs) p q = λ i. (one x p.0 q.0 i, all_prop P one xs p.1 q.1 i)
 
 deadline_prop : (frame : ℕ) (o : Option ℕ) → IsProp (DeadlineFits frame o)
 deadline_prop frame None = hlevel props
@@ -82,10 +78,10 @@ within_prop m p q =
       window_count = same p.window_count q.window_count (hlevel props) i;
       dependency_count = same p.dependency_count q.dependency_count (hlevel props) i;
       exclusion_count = same p.exclusion_count q.exclusion_count (hlevel props) i;
-      tasks = same p.tasks q.tasks (all_prop _ (task_prop m.dimensions) m.tasks) i;
-      windows = same p.windows q.windows (all_prop _ (window_prop m.dimensions) m.windows) i;
-      dependencies = same p.dependencies q.dependencies (all_prop _ (dependency_prop m.dimensions) m.dependencies) i;
-      exclusions = same p.exclusions q.exclusions (all_prop _ (exclusion_prop m.dimensions) m.exclusions) i;
+      tasks = same p.tasks q.tasks (AllByRecursion-prop _ (task_prop m.dimensions) m.tasks) i;
+      windows = same p.windows q.windows (AllByRecursion-prop _ (window_prop m.dimensions) m.windows) i;
+      dependencies = same p.dependencies q.dependencies (AllByRecursion-prop _ (dependency_prop m.dimensions) m.dependencies) i;
+      exclusions = same p.exclusions q.exclusions (AllByRecursion-prop _ (exclusion_prop m.dimensions) m.exclusions) i;
       order = same p.order q.order (hlevel (props, follows_prop)) i;
     }
 

@@ -1,10 +1,11 @@
 -- Two rows are apart in every frame if they are clear of each other at the distances from -3 to 3.
 use Rattle.std.specs.Prelude.{◌≡◌, ℕ, ◌+◌, ◌-◌, ◌*◌, ◌<◌, ◌≤◌, true, false, length, ℤ, pos, negsuc, ◌+ℤ◌, ◌-ℤ◌, ◌≤ℤ◌, ◌<ℤ◌, int_le, slice_index_or}
-use Rattle.std.proofs.Common.{inl, inr, sym, subst, to_z, of_z, add-mul, mul-le-mul_right, arith}
+use Rattle.std.proofs.Common.{inl, inr, sym, ◌∙◌, subst, to_z, of_z, add-mul, mul-le-mul_right, arith}
 use Rattle.std.specs.Int.{w8}
-use Rattle.std.proofs.ByRecursion.{has_get_or}
 use Rattle.std.proofs.lemmas.Int.{ints, by_lt_z}
 use Rattle.std.proofs.lemmas.Bool.{cases_lt}
+use Rattle.std.proofs.lemmas.List.{get_or_default}
+use Rattle.std.proofs.lemmas.List.Elements.{Contains-get_or}
 use Rattle.problem.specs.Limits.{Model}
 use Rattle.table.specs.declared.part.Part.{Part}
 use Rattle.table.specs.Rows.{RowModel, no_part, start_of}
@@ -57,8 +58,8 @@ module _ (p : Model) (i j : ℕ) (a b : RowModel) (oka : LawfulShape p.dimension
   pub clear_apart : ((d : ℤ) → negsuc 2 ≤ℤ d → d <ℤ pos 4 → (x y : ℕ) → x < length a.parts → y < length b.parts → Clear p i j a b d x y) → (n : ℕ) → ApartIn p i j a b n
   clear_apart clear n m t (ap, (x, hx, ax), ia) (bp, (y, hy, ay), ib) =
       let frame = p.dimensions.frame in
-      let ip = subst (λ (z : Part). InPart frame z n t) (sym (ax no_part)) ia in
-      let iq = subst (λ (z : Part). InPart frame z m t) (sym (ay no_part)) ib in
+      let ip = subst (λ (z : Part). InPart frame z n t) (sym (get_or_default a.parts x no_part ap hx ∙ ax)) ia in
+      let iq = subst (λ (z : Part). InPart frame z m t) (sym (get_or_default b.parts y no_part bp hy ∙ ay)) ib in
       let a1 = begins_after p.dimensions a oka x hx in
       let a2 = ends_before p.dimensions a oka x hx in
       let b1 = begins_after p.dimensions b okb y hy in
@@ -71,11 +72,11 @@ module _ (p : Model) (i j : ℕ) (a b : RowModel) (oka : LawfulShape p.dimension
   -- parts that share a tick without leave break the place in frame 3
   pub overlap_broken : (d : ℤ) → negsuc 2 ≤ℤ d → (x y : ℕ) → x < length a.parts → y < length b.parts →
       ((n m : ℕ) → AtDistance n m d → ShareTick p.dimensions.frame (slice_index_or a.parts x no_part) n (slice_index_or b.parts y no_part) m) →
-      ((n m : ℕ) → AtDistance n m d → NeverBoth p i n j m → ⊥) → ApartIn p i j a b 3 → ⊥
+      ((n m : ℕ) → AtDistance n m d → ¬ (NeverBoth p i n j m)) → ¬ (ApartIn p i j a b 3)
   overlap_broken d low x y hx hy shared never kept =
       let m = third d low in
       let s = shared 3 m.0 m.1 in
-      never 3 m.0 m.1 (kept m.0 s.0 (slice_index_or a.parts x no_part, has_get_or a.parts x no_part hx, s.1) (slice_index_or b.parts y no_part, has_get_or b.parts y no_part hy, s.2))
+      never 3 m.0 m.1 (kept m.0 s.0 (slice_index_or a.parts x no_part, Contains-get_or a.parts x no_part hx, s.1) (slice_index_or b.parts y no_part, Contains-get_or b.parts y no_part hy, s.2))
 
 module _ (p : Model) (i j : ℕ) (a b : RowModel) where
   -- wherever the search looked earlier, by what it knows of distances, of the first row's parts and of the second's

@@ -1,5 +1,5 @@
 -- Instances at a distance: what they share, in ticks, and how the code computes it with signed numbers.
-use Rattle.std.proofs.Common.{◌≡◌, false, to_z, of_z, ℕ, suc, ◌≤◌, nat_abs, subst, ◌+◌, ◌*◌, ◌<◌, max, ℤ, pos, negsuc, ◌+ℤ◌, ◌*ℤ◌, ◌<ℤ◌, ◌↔◌, ap, add-mul, arith, w8, SFits}
+use Rattle.std.proofs.Common.{◌≡◌, ◌≢◌, false, to_z, of_z, ℕ, suc, ◌≤◌, nat_abs, subst, ◌+◌, ◌*◌, ◌<◌, max, ℤ, pos, negsuc, ◌+ℤ◌, ◌*ℤ◌, ◌<ℤ◌, ◌↔◌, ap, add-mul, arith, w8, SFits}
 use lib.Signed.{le_z}
 use lib.IntN.{pos-*ℤ-pos, negsuc-*ℤ-pos}
 use Rattle.std.specs.Int.{int_max, int_min}
@@ -29,7 +29,7 @@ pub excludes : (p : Model) (x y n m far : ℕ) → m ≡ n + far → Listed p x 
 excludes p x y n m far at = (λ l. (far, l, at), λ (distance, l, is). let same : distance ≡ far = omega arith in subst (λ (z : ℕ). Listed p x y z) same l)
 
 -- the first instance is not after the second at a distance above 0
-pub not_behind : (d : ℤ) (n m far : ℕ) → SFits w8 d → AtDistance n m d → le_z (to_z w8 (of_z w8 d)) (pos 0) ≡ false → n ≡ m + far → ⊥
+pub not_behind : (d : ℤ) (n m far : ℕ) → SFits w8 d → AtDistance n m d → le_z (to_z w8 (of_z w8 d)) (pos 0) ≡ false → n ≢ m + far
 not_behind d n m far fits at test behind = grind (arith, ints)
 
 -- two parts share a tick exactly if the later of their begins is before the earlier of their ends

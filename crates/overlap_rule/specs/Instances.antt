@@ -1,5 +1,4 @@
-use Rattle.std.specs.Prelude.{◌≡◌, ℕ, ◌+◌, ◌*◌, ◌<◌, ◌≤◌, ◌⊎◌}
-use Rattle.std.specs.List.{ContainsAt as Has}
+use Rattle.std.specs.Prelude.{◌≡◌, ℕ, ◌+◌, ◌*◌, ◌<◌, ◌≤◌, ◌⊎◌, Contains}
 use Rattle.problem.specs.declared.exclusion.Exclusion.{Exclusion}
 use Rattle.problem.specs.Limits.{Model}
 use Rattle.table.specs.declared.part.Part.{Part}
@@ -11,11 +10,11 @@ InPart frame part n tick = (part.begin + n * frame ≤ tick) × (tick < part.end
 
 -- instance `n` of the row runs at the tick
 abbrev pub RunsAt : ℕ → RowModel → ℕ → ℕ → Type 0
-RunsAt frame row n tick = (part : Part) × Has row.parts part × InPart frame part n tick
+RunsAt frame row n tick = (part : Part) × Contains row.parts part × InPart frame part n tick
 
 -- the exclusion of `x`, `y` and the distance is listed
 abbrev pub Listed : Model → ℕ → ℕ → ℕ → Type 0
-Listed p x y distance = (e : Exclusion) × Has p.exclusions e × (e.first ≡ x) × (e.second ≡ y) × (e.distance ≡ distance)
+Listed p x y distance = (e : Exclusion) × Contains p.exclusions e × (e.first ≡ x) × (e.second ≡ y) × (e.distance ≡ distance)
 
 -- an exclusion of the problem says that instance `n` of `x` and instance `m` of `y` never both run
 abbrev pub Excludes : Model → ℕ → ℕ → ℕ → ℕ → Type 0

@@ -31,7 +31,7 @@ pub record FirstOverlap (p : Model) (i j : ℕ) (a b : RowModel) (o : Overlap) :
   pub first : o.first < length a.parts
   pub second : o.second < length b.parts
   pub shared : (n m : ℕ) → AtDistance n m o.distance → ShareTick p.dimensions.frame (slice_index_or a.parts o.first no_part) n (slice_index_or b.parts o.second no_part) m
-  pub unexcused : (n m : ℕ) → AtDistance n m o.distance → NeverBoth p i n j m → ⊥
+  pub unexcused : (n m : ℕ) → AtDistance n m o.distance → ¬ (NeverBoth p i n j m)
   pub before : (distance : ℤ) (x y : ℕ) → negsuc 2 ≤ℤ distance → x < length a.parts → y < length b.parts → Earlier distance x y o → Clear p i j a b distance x y
 
 -- what a search through two rows finds: nothing where they are apart in every frame, else the first overlap
@@ -47,7 +47,7 @@ pub record OverlapOf (p : Model) (i j : ℕ) (rows : Rows) (o : Overlap) : Type 
   pub b_is : row_at rows j ≡ Some b
   pub one_processor : a.processor ≡ b.processor
   pub first : FirstOverlap p i j a b o
-  pub broken : (n : ℕ) × (OverlapKept p i j rows n → ⊥)
+  pub broken : (n : ℕ) × ¬ (OverlapKept p i j rows n)
 
 -- what the search for an overlap of two tasks finds: nothing where their place is kept in every frame
 abbrev pub FoundOverlap : Model → ℕ → ℕ → Rows → Option Overlap → Type 0

@@ -1,5 +1,4 @@
-use Rattle.std.specs.Prelude.{◌≡◌, ℕ, List}
-use Rattle.std.specs.List.{AllByRecursion}
+use Rattle.std.specs.Prelude.{◌≡◌, ℕ, List, All}
 use Rattle.problem.specs.Limits.{Model}
 use Rattle.problem.specs.Lookup.{task_at}
 use Rattle.rules.specs.Meaning.{Meaning}
@@ -7,7 +6,7 @@ use Rattle.piles.specs.Scoped.{scoped}
 
 -- all these tasks are in the partition
 abbrev pub AllIn : ℕ → Model → List ℕ → Type 0
-AllIn partition p tasks = AllByRecursion (λ t. (task_at p t).partition ≡ partition) tasks
+AllIn partition p tasks = All (λ t. (task_at p t).partition ≡ partition) tasks
 
 -- a place that names these tasks is inside the partition
 abbrev pub Inside : ℕ → Model → ℕ → List ℕ → Type 0

@@ -1,4 +1,4 @@
-use Rattle.std.specs.Prelude.{◌≡◌, ℕ, ◌+◌, ◌-◌, ◌<◌, ◌≤◌, min, cond, if◌then◌else◌, nat_lt, Some, None, Option}
+use Rattle.std.specs.Prelude.{◌≡◌, ℕ, ◌+◌, ◌-◌, ◌<◌, ◌≤◌, min, if◌then◌else◌, nat_lt, Some, None, Option, MatchBool}
 use Rattle.problem.specs.Limits.{Model}
 use Rattle.rules.specs.Meaning.{Meaning}
 use Rattle.piles.specs.declared.pair.Side.{Side}
@@ -10,7 +10,7 @@ paired a b = record {
   count = λ p. min (a.count p + b.count p) 65537;
   label = λ p k. (if nat_lt k (a.count p) then a.label p k else b.label p (k - a.count p));
   tasks = λ p k. (if nat_lt k (a.count p) then a.tasks p k else b.tasks p (k - a.count p));
-  kept = λ p rows k n. cond (nat_lt k (a.count p)) (a.kept p rows k n) (b.kept p rows (k - a.count p) n);
+  kept = λ p rows k n. MatchBool (nat_lt k (a.count p)) (a.kept p rows k n) (b.kept p rows (k - a.count p) n);
 }
 
 -- where place `k` of the pair stands: at a place of the first rule or of the second, or nowhere if it is at or above the count

@@ -1,21 +1,20 @@
-use Rattle.std.specs.Prelude.{◌≡◌, ℕ, ◌<◌, ◌⊎◌, List, [], ◌∷◌, ◌++◌, length, Ok, Err, Result}
-use Rattle.std.specs.List.{ContainsAt as Has}
+use Rattle.std.specs.Prelude.{◌≡◌, ℕ, ◌<◌, ◌⊎◌, List, [], ◌∷◌, ◌++◌, length, Ok, Err, Result, Contains}
 use Rattle.piles.specs.declared.fault.WaiverFull.{WaiverFull}
 
 -- a number that is listed alters nothing
 pub record Known (before : List ℕ) (place : ℕ) (after : List ℕ) : Type 0 where
-  pub listed : Has before place
+  pub listed : Contains before place
   pub same : after ≡ before
 
 -- a number that is not listed, where there is room, is added
 pub record Added (before : List ℕ) (place : ℕ) (after : List ℕ) : Type 0 where
-  pub new : Has before place → ⊥
+  pub new : ¬ (Contains before place)
   pub room : length before < 16
   pub more : after ≡ before ++ place ∷ []
 
 -- a number that is not listed, where 16 are, is refused and alters nothing
 pub record Full (before : List ℕ) (place : ℕ) (after : List ℕ) : Type 0 where
-  pub new : Has before place → ⊥
+  pub new : ¬ (Contains before place)
   pub full : length before ≡ 16
   pub same : after ≡ before
 

@@ -1,5 +1,4 @@
-use Rattle.std.specs.Prelude.{ℕ, List}
-use Rattle.std.specs.List.{ContainsAt as Has}
+use Rattle.std.specs.Prelude.{ℕ, List, Contains}
 use Rattle.problem.specs.Limits.{Model}
 use Rattle.rules.specs.Meaning.{Meaning}
 use Rattle.piles.specs.declared.scoped.Scoped.{Scoped}
@@ -12,7 +11,7 @@ listed w = w.scope.places.items
 
 -- a place is not listed
 abbrev pub NotListed : List ℕ → Model → ℕ → List ℕ → Type 0
-NotListed places p k tasks = Has places k → ⊥
+NotListed places p k tasks = ¬ (Contains places k)
 
 -- a listed place is kept; all else is the lower rule's
 abbrev pub waived : List ℕ → Meaning → Meaning

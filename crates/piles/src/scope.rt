@@ -1,5 +1,4 @@
-ghost use Rattle.std.specs.Prelude.{ℕ, ◌<◌, ◌↔◌, IsTrue, List};
-ghost use Rattle.std.specs.List.{AllByRecursion};
+ghost use Rattle.std.specs.Prelude.{ℕ, ◌<◌, ◌↔◌, All, IsTrue, List};
 ghost use Rattle.problem.specs.Limits.{Model};
 ghost use Rattle.problem.specs.Model.{model};
 
@@ -12,6 +11,6 @@ pub(crate) trait Scope {
 
     /// The rule counts at a place that names these tasks.
     fn covers(&self, problem: &Problem, place: u32, tasks: &[u32; 2]) -> bool
-        requires { AllByRecursion (λ t. t < problem.now.dimensions.tasks) tasks.now }
+        requires { All (λ t. t < problem.now.dimensions.tasks) tasks.now }
         ensures { IsTrue result ↔ Covers self.now (model problem.now) place tasks.now };
 }

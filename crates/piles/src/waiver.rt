@@ -1,7 +1,6 @@
 ghost use Rattle.piles.specs.Waive.{Waives};
 ghost use Rattle.piles.specs.Waiver.{NotListed, listed};
-ghost use Rattle.std.specs.Prelude.{◌≡◌, ◌↔◌, IsTrue, []};
-ghost use Rattle.std.specs.List.{ContainsAt as Has};
+ghost use Rattle.std.specs.Prelude.{◌≡◌, ◌↔◌, Contains, IsTrue, []};
 
 use crate::fault::WaiverFull;
 use crate::scope::Scope;
@@ -16,7 +15,7 @@ pub type Waiver<R> = Scoped<R, Unlisted>;
 impl Unlisted {
     /// The place is listed.
     fn lists(&self, place: u32) -> bool
-        ensures { IsTrue result ↔ Has self.now.places.items place }
+        ensures { IsTrue result ↔ Contains self.now.places.items place }
     {
         self.places.contains(&place)
     }
@@ -45,7 +44,7 @@ impl<R> Waiver<R> {
 
     /// The place is listed.
     pub fn lists(&self, place: u32) -> bool
-        ensures { IsTrue result ↔ Has (listed self.now) place }
+        ensures { IsTrue result ↔ Contains (listed self.now) place }
     {
         self.scope.lists(place)
     }

@@ -1,8 +1,8 @@
 -- The published book's lawful tables are exactly the tables of lawful shape that meet the eight conditions.
-use Rattle.std.proofs.Common.{◌≡◌, ℕ, ◌+◌, ◌*◌, ◌/◌, ◌%◌, ◌<◌, ◌≤◌, get_or, subst, arith}
+use Rattle.std.proofs.Common.{◌≡◌, ℕ, ◌+◌, ◌*◌, ◌/◌, ◌%◌, ◌<◌, ◌≤◌, get_or, Contains, ◌∙◌, subst, arith}
 use Rattle.std.proofs.lemmas.Nat.{div-mul-add, mod-mul-add, mul-add-lt, mul-le}
-use Rattle.std.proofs.ByRecursion.{has_get_or}
-use Rattle.std.specs.List.{ContainsAt as Has}
+use Rattle.std.proofs.lemmas.List.{get_or_default}
+use Rattle.std.proofs.lemmas.List.Elements.{Contains-get_or}
 use Rattle.problem.specs.declared.dependency.Dependency.{Dependency}
 use Rattle.problem.specs.Lookup.{no_dependency}
 use Rattle.problem.specs.Limits.{Model, Within}
@@ -20,11 +20,11 @@ use Rattle.published.specs.Conditions.{Conditions, LawfulExactly}
 use Rattle.published.proofs.Split.{KeepsAll, join, split_first, split_second}
 
 module _ (p : Model) (rows : Rows) (s : Shaped p rows) where
-  dependency_from : KeepsAll dependency_rule p rows → (x : Dependency) → Has p.dependencies x → (n : ℕ) → DependencyKept p x rows n
-  dependency_from all x (d, h, at) n = subst (λ (y : Dependency). DependencyKept p y rows n) (at no_dependency) (all d n h)
+  dependency_from : KeepsAll dependency_rule p rows → (x : Dependency) → Contains p.dependencies x → (n : ℕ) → DependencyKept p x rows n
+  dependency_from all x (d, h, at) n = subst (λ (y : Dependency). DependencyKept p y rows n) (get_or_default p.dependencies d no_dependency x h ∙ at) (all d n h)
 
-  dependency_to : ((x : Dependency) → Has p.dependencies x → (n : ℕ) → DependencyKept p x rows n) → KeepsAll dependency_rule p rows
-  dependency_to all d n h = all (get_or p.dependencies d no_dependency) (has_get_or p.dependencies d no_dependency h) n
+  dependency_to : ((x : Dependency) → Contains p.dependencies x → (n : ℕ) → DependencyKept p x rows n) → KeepsAll dependency_rule p rows
+  dependency_to all d n h = all (get_or p.dependencies d no_dependency) (Contains-get_or p.dependencies d no_dependency h) n
 
   overlap_from : KeepsAll overlap_rule p rows → (i j : ℕ) → i < j → (n : ℕ) → OverlapKept p i j rows n
   overlap_from all i j below n a b ea eb =

@@ -1,5 +1,4 @@
-use Rattle.std.specs.Prelude.{◌≡◌, ℕ, ◌<◌, Some}
-use Rattle.std.specs.List.{ContainsAt as Has}
+use Rattle.std.specs.Prelude.{◌≡◌, ℕ, ◌<◌, Some, Contains}
 use Rattle.problem.specs.declared.dependency.Dependency.{Dependency}
 use Rattle.problem.specs.Limits.{Model}
 use Rattle.problem.specs.Lookup.{task_at}
@@ -27,7 +26,7 @@ pub record Conditions (p : Model) (rows : Rows) : Type 0 where
   -- each row ends at its task's deadline or earlier, if there is one
   pub deadline : (t : ℕ) (row : RowModel) → row_at rows t ≡ Some row → OnTime (task_at p t) row
   -- in every frame the data of each dependency has arrived when its destination starts
-  pub dependency : (x : Dependency) → Has p.dependencies x → (n : ℕ) → DependencyKept p x rows n
+  pub dependency : (x : Dependency) → Contains p.dependencies x → (n : ℕ) → DependencyKept p x rows n
   -- in every frame two tasks on one processor share no tick, unless they are excluded from running both
   pub overlap : (i j : ℕ) → i < j → (n : ℕ) → OverlapKept p i j rows n
 

@@ -22,6 +22,6 @@ module _ (rule : ℕ) (Wanted : Model → Task → RowModel → ℕ → Type 0) 
       subst (λ (r : RowModel). Wanted p (task_at p t) r n) one (subst (λ (task : Task). Wanted p task (row_model x.row) n) at.task (wanted n))
 
   -- a row that is not wanted in some frame breaks it
-  pub each_broken : (x : Placed) → PlacedAs p rows t x → (n : ℕ) → (Wanted p x.task (row_model x.row) n → ⊥) → Breaks (of_each_task rule Wanted) p rows t
+  pub each_broken : (x : Placed) → PlacedAs p rows t x → (n : ℕ) → ¬ (Wanted p x.task (row_model x.row) n) → Breaks (of_each_task rule Wanted) p rows t
   each_broken x at n unwanted =
       (n, λ kept. unwanted (subst (λ (task : Task). Wanted p task (row_model x.row) n) (sym at.task) (kept at.number (row_model x.row) at.row)))

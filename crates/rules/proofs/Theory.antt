@@ -1,38 +1,27 @@
 -- What the laws give: a change of some rows leaves the places that do not name their tasks kept, and every part of a lawful table is lawful.
-use Rattle.std.proofs.Common.{◌≡◌, ℕ, ◌<◌, ◌≤◌, ◌⊎◌, List, [], ◌∷◌, Some, None, Option, sym, refl, ◌∙◌, subst, inl, inr, arith}
-use Rattle.std.proofs.ByRecursion.{all-has}
-use Rattle.std.proofs.lemmas.List.{length-set}
-use Rattle.std.specs.List.{ContainsAt as Has, AllByRecursion}
+use Rattle.std.proofs.Common.{◌≡◌, ℕ, ◌<◌, ◌≤◌, ◌⊎◌, List, [], ◌∷◌, Some, None, Option, All, Contains, IfNone, sym, ◌∙◌, subst, inl, inr, arith}
+use Rattle.std.proofs.lemmas.List.Elements.{All-cons, All-contains, All-nil}
 use Rattle.std.specs.Option.{MatchOption}
 use Rattle.problem.specs.Limits.{Model}
-use Rattle.table.specs.Put.{without}
 use Rattle.table.specs.Rows.{Rows, row_at, Agree}
 use Rattle.table.specs.Shape.{Shaped}
-use Rattle.table.proofs.Shapes.{set_at}
 use Rattle.rules.specs.Judged.{Keeps, Breaks}
 use Rattle.rules.specs.Lawful.{Lawful, PartOf, DifferAt}
 use Rattle.rules.specs.Meaning.{Meaning, Reach, Absence, Names, tasks_of}
-use Rattle.rules.specs.Search.{NamesEither, BrokenNaming, KeptNaming, FoundNaming, Found, LastingIfNone}
+use Rattle.rules.specs.Search.{NamesEither, BrokenNaming, KeptNaming, FoundNaming, Found, Lasting}
 use Rattle.rules.proofs.Named.{has_or_not, has_first, has_later, named_below}
 
 -- some task of the list has no row, or the tables agree on all of them
-missing_or_same : (part whole : Rows) → PartOf part whole → (ts : List ℕ) → ((t : ℕ) × Has ts t × (row_at part t ≡ None)) ⊎ AllByRecursion (Agree whole part) ts
-missing_or_same part whole of [] = inr tt
+missing_or_same : (part whole : Rows) → PartOf part whole → (ts : List ℕ) → ((t : ℕ) × Contains ts t × (row_at part t ≡ None)) ⊎ All (Agree whole part) ts
+missing_or_same part whole of [] = inr (All-nil (Agree whole part))
 missing_or_same part whole of (t ∷ ts) =
     elim (of.rows t) [
       | inl none ↦ inl (t, has_first t ts, none)
       | inr same ↦ elim (missing_or_same part whole of ts) [
         | inl found ↦ inl (found.0, has_later t ts found.0 found.1, found.2)
-        | inr all ↦ inr (sym same, all)
+        | inr all ↦ inr (All-cons (Agree whole part) t ts (sym same) all)
       ]
     ]
-
--- a table with a row taken out is part of it
-pub without_part : (rows : Rows) (t : ℕ) → PartOf (without rows t) rows
-without_part rows t = record {
-  places = length-set rows t None;
-  rows = λ u. elim (set_at rows t u None None (row_at (without rows t) u) refl) [ inl h ↦ inl (sym h) | inr h ↦ inr (sym h) ];
-}
 
 module _ (m : Meaning) (p : Model) where
   -- a part of a table of lawful shape has lawful shape
@@ -59,13 +48,13 @@ module _ (m : Meaning) (p : Model) where
         shape = s;
         keeps = λ k n h. elim (missing_or_same part whole of (m.tasks p k)) [
           | inl found ↦ absence p part k n found.0 s h found.1 found.2
-          | inr all ↦ reach p whole part k n l.shape s h (λ t has. all-has (Agree whole part) (m.tasks p k) t all has) (l.keeps k n h)
+          | inr all ↦ reach p whole part k n l.shape s h (λ t has. All-contains (Agree whole part) (m.tasks p k) t all has) (l.keeps k n h)
         ];
       }
 
 module _ (m : Meaning) (p : Model) (a b : ℕ) (before after : Rows) (reach : Reach m) (l : Lawful m p before) (s : Shaped p after) (differ : DifferAt a b before after) where
   -- a place that names neither of two changed tasks is kept
-  neither_kept : (k : ℕ) → (NamesEither m p k a b → ⊥) → Keeps m p after k
+  neither_kept : (k : ℕ) → ¬ (NamesEither m p k a b) → Keeps m p after k
   neither_kept k none =
       unnamed_kept m p reach before after k l s (λ t named.
       differ t (λ e. none (inl (subst (λ (u : ℕ). Names m p k u) e named))) (λ e. none (inr (subst (λ (u : ℕ). Names m p k u) e named))))
@@ -104,7 +93,7 @@ module _ (m : Meaning) (p : Model) (rows : Rows) (count : ℕ) (all : count ≡ 
   found_naming a b (Some k) first = record { named = first.2.named; broken = first.2.broken; before = λ j h. (first.3 j (omega arith) h).kept }
 
 -- what a lawful table lasts through
-pub found_lasting : (m : Meaning) (p : Model) (rows : Rows) → Reach m → Absence m → (found : Option ℕ) → Found m p rows found → LastingIfNone m p rows found
+pub found_lasting : (m : Meaning) (p : Model) (rows : Rows) → Reach m → Absence m → (found : Option ℕ) → Found m p rows found → IfNone found (Lasting m p rows)
 found_lasting m p rows reach absence None lawful = record {
   parts = λ part of. lawful_part m p reach absence part rows of lawful;
   unnamed = λ after k s same. unnamed_kept m p reach rows after k lawful s same;

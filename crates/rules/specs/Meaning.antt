@@ -1,5 +1,4 @@
-use Rattle.std.specs.Prelude.{◌≡◌, ℕ, ◌<◌, if◌then◌else◌, List, [], ◌∷◌, None, nat_lt}
-use Rattle.std.specs.List.{ContainsAt as Has}
+use Rattle.std.specs.Prelude.{◌≡◌, ℕ, ◌<◌, if◌then◌else◌, List, [], ◌∷◌, None, nat_lt, Contains}
 use Rattle.problem.specs.Limits.{Model}
 use Rattle.table.specs.Rows.{Rows, row_at, Agree}
 use Rattle.table.specs.Shape.{Shaped}
@@ -16,13 +15,13 @@ pub record Meaning : Type 1 where
 abbrev pub Reach : Meaning → Type 0
 Reach m =
     (p : Model) (a b : Rows) (k n : ℕ) → Shaped p a → Shaped p b → k < m.count p →
-    ((t : ℕ) → Has (m.tasks p k) t → Agree a b t) → m.kept p a k n → m.kept p b k n
+    ((t : ℕ) → Contains (m.tasks p k) t → Agree a b t) → m.kept p a k n → m.kept p b k n
 
 -- absence: a place that names a task without a row is kept in every frame
 abbrev pub Absence : Meaning → Type 0
 Absence m =
     (p : Model) (rows : Rows) (k n t : ℕ) → Shaped p rows → k < m.count p →
-    Has (m.tasks p k) t → row_at rows t ≡ None → m.kept p rows k n
+    Contains (m.tasks p k) t → row_at rows t ≡ None → m.kept p rows k n
 
 -- the label of a place; one at or above the count has rule 0 and its own number
 abbrev pub label_of : Meaning → Model → ℕ → Label
@@ -34,4 +33,4 @@ tasks_of m p k = (if nat_lt k (m.count p) then m.tasks p k else 0 ∷ 0 ∷ [])
 
 -- a place names a task
 abbrev pub Names : Meaning → Model → ℕ → ℕ → Type 0
-Names m p k t = Has (tasks_of m p k) t
+Names m p k t = Contains (tasks_of m p k) t

@@ -43,8 +43,3 @@ FoundAfterChange m p rows a b found = (before : Rows) → Lawful m p before → 
 pub record Lasting (m : Meaning) (p : Model) (rows : Rows) : Type 0 where
   pub parts : (part : Rows) → PartOf part rows → Lawful m p part
   pub unnamed : (after : Rows) (k : ℕ) → Shaped p after → ((t : ℕ) → Names m p k t → Agree rows after t) → Keeps m p after k
-
--- the same of what a search of the whole book found
-abbrev pub LastingIfNone : Meaning → Model → Rows → Option ℕ → Type 0
-LastingIfNone m p rows None = Lasting m p rows
-LastingIfNone m p rows (Some k) = Unit {0}

@@ -1,8 +1,7 @@
-ghost use Rattle.std.specs.Prelude.{◌≡◌, ◌<◌, ◌≤◌};
+ghost use Rattle.std.specs.Prelude.{◌≡◌, ◌<◌, ◌≤◌, All};
 ghost use Rattle.problem.specs.Model.{model};
 ghost use Rattle.rules.specs.Judged.{Judged};
 ghost use Rattle.rules.specs.Meaning.{Absence, Meaning, Reach, label_of, tasks_of};
-ghost use Rattle.std.specs.List.{AllByRecursion};
 ghost use Rattle.table.specs.Table.{problem_of, rows_of};
 
 use crate::judgement::Judgement;
@@ -28,7 +27,7 @@ pub trait Rule {
     /// The tasks that a place names: two of the problem's, perhaps one twice.
     fn tasks(&self, problem: &Problem, place: u32) -> [u32; 2]
         ensures value { result ≡ tasks_of (meaning self.now) (model problem.now) place }
-        ensures known { AllByRecursion (λ t. t < problem.now.dimensions.tasks) result };
+        ensures known { All (λ t. t < problem.now.dimensions.tasks) result };
 
     /// Whether the table keeps a place in every frame or breaks it in some frame.
     fn judge(&self, table: &Table, place: u32) -> Judgement

@@ -1,9 +1,8 @@
 -- The test of a row's parts says whether each lies inside a repeated window, whichever instance it is of.
-use Rattle.std.proofs.Common.{◌≡◌, ℕ, ◌+◌, ◌-◌, ◌%◌, ◌<◌, ◌≤◌, ◌↔◌, IsTrue, length, get_or, sym, refl, subst}
-use Rattle.std.proofs.ByRecursion.{All-get_or}
+use Rattle.std.proofs.Common.{◌≡◌, ℕ, ◌+◌, ◌-◌, ◌%◌, ◌<◌, ◌≤◌, ◌↔◌, IsTrue, All, Contains, get_or, sym, refl, subst}
 use Rattle.std.proofs.lemmas.Bool.{and_parts, and_from, eqb-true, eq-eqb, leb-true, le-leb}
 use Rattle.std.proofs.lemmas.Bool.Decides.{Decides-by_or, Decides-by_and}
-use Rattle.std.proofs.lemmas.List.{get_or_default}
+use Rattle.std.proofs.lemmas.List.Elements.{All-contains, All-from_get_or, All-from_recursion, Contains-get_or, at_from_Contains}
 use Rattle.std.specs.List.{list_any, list_all}
 use Rattle.problem.specs.declared.task.Task.{Task}
 use Rattle.problem.specs.declared.window.Window.{Window}
@@ -37,15 +36,17 @@ module _ (p : Model) (within : Within p) (partition processor n : ℕ) where
       let begin = part.begin % p.dimensions.frame in
       let test = serves partition processor begin (begin + (part.end - part.begin)) in
       let any = Decides-by_or test (λ (w : Window). IsTrue (test w)) (list_any test) (λ w. (λ t. t, λ t. t)) refl (λ _ _. refl) p.windows in
-      let fits = λ (k : ℕ) (h : k < length p.windows). (All-get_or (WindowFits p.dimensions) p.windows k no_window h within.windows).end in (
+      let each = All-from_recursion (WindowFits p.dimensions) p.windows within.windows in
+      let fits = λ (w : Window) (has : Contains p.windows w). (All-contains (WindowFits p.dimensions) p.windows w each has).end in (
         λ t.
             let f = any.0 t in
             let w = get_or p.windows f.0 no_window in
-            let found = (serves_exactly part span w (fits f.0 f.1)).0 (f.2 no_window) in
-            (w, (f.0, f.1, λ d. get_or_default p.windows f.0 d no_window f.1), found.0, found.1, found.2),
-        λ s.
-            let end : s.0.end ≤ p.dimensions.frame = subst (λ (w : Window). w.end ≤ p.dimensions.frame) (s.1.2 no_window) (fits s.1.0 s.1.1) in
-            any.1 (s.1.0, s.1.1, λ d. subst (λ (w : Window). IsTrue (test w)) (sym (s.1.2 d)) ((serves_exactly part span s.0 end).1 (s.2, s.3, s.4))),
+            let has = Contains-get_or p.windows f.0 no_window f.1 in
+            let found = (serves_exactly part span w (fits w has)).0 (f.2 no_window) in
+            (w, has, found.0, found.1, found.2),
+        λ (w, has, partition_is, processor_is, inside).
+            let at = at_from_Contains p.windows w has in
+            any.1 (at.0, at.1, λ d. subst (λ (w : Window). IsTrue (test w)) (sym (at.2 d)) ((serves_exactly part span w (fits w has)).1 (partition_is, processor_is, inside))),
       )
 
 -- the test of a row of lawful shape
@@ -55,12 +56,10 @@ pub tested :
 tested p within task row ok n =
     let test = served p task.partition row.processor in
     let all = Decides-by_and test (λ (part : Part). IsTrue (test part)) (list_all test) (λ part. (λ t. t, λ t. t)) refl (λ _ _. refl) row.parts in
+    let spans : All (λ (x : Part). x.begin < x.end) row.parts = All-from_get_or (λ (x : Part). x.begin < x.end) row.parts no_part ok.turns.spans in
     let one = served_exactly p within task.partition row.processor n in (
       λ t part has.
-          let span : part.begin < part.end = subst (λ (x : Part). x.begin < x.end) (has.2 no_part) (ok.turns.spans has.0 has.1) in
-          (one part span).0 (subst (λ (x : Part). IsTrue (test x)) (has.2 no_part) (all.0 t has.0 no_part has.1)),
-      λ each. all.1 (λ k d h.
-          let same = λ (e : Part). get_or_default row.parts k e d h in
-          let span : (get_or row.parts k d).begin < (get_or row.parts k d).end = subst (λ (x : Part). x.begin < x.end) (same no_part) (ok.turns.spans k h) in
-          (one (get_or row.parts k d) span).1 (each (get_or row.parts k d) (k, h, same))),
+          let span = All-contains (λ (x : Part). x.begin < x.end) row.parts part spans has in
+          (one part span).0 (All-contains (λ (x : Part). IsTrue (test x)) row.parts part (all.0 t) has),
+      λ each. all.1 (λ k d h. (one (get_or row.parts k d) (spans k d h)).1 (each (get_or row.parts k d) (Contains-get_or row.parts k d h))),
     )

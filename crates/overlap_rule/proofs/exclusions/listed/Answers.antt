@@ -1,7 +1,6 @@
-use Rattle.std.proofs.Common.{◌≡◌, Bool, eqb, ◌&&◌, Decides, List, refl, subst}
+use Rattle.std.proofs.Common.{◌≡◌, Bool, eqb, ◌&&◌, Contains, Decides, List, refl, subst}
 use Rattle.std.proofs.lemmas.Bool.Decides.{Decides-and, Decides-eqb}
-use Rattle.std.proofs.lemmas.List.Elements.{contains_decides}
-use Rattle.std.specs.List.{ContainsAt as Has}
+use Rattle.std.proofs.lemmas.List.Elements.{Decides-contains, contains_decides}
 use Rattle.problem.specs.declared.exclusion.Exclusion.{Exclusion}
 use Rattle.overlap_rule.proofs.exclusions.listed.Goals as goal
 
@@ -17,5 +16,5 @@ same a b =
 pub returns : goal.returns
 returns c =
     let one : Exclusion = record { first = c.args.first; second = c.args.second; distance = c.args.distance } in
-    let d = subst (λ (es : List Exclusion). Decides c.contains.result (Has es one)) c.deref.ensures.value (contains_decides equal same c.deref.result.now one c.contains.result c.contains.ensures.cases) in
-    (λ t. (one, d.0 t, refl, refl, refl), λ l. d.1 (subst (λ (e : Exclusion). Has c.args.problem.now.exclusions.items e) (λ i. record { first = l.2 i; second = l.3 i; distance = l.4 i }) l.1))
+    let d = subst (λ (es : List Exclusion). Decides c.contains.result (Contains es one)) c.deref.ensures.value (Decides-contains _ _ _ (contains_decides equal same c.deref.result.now one c.contains.result c.contains.ensures.cases)) in
+    (λ t. (one, d.0 t, refl, refl, refl), λ l. d.1 (subst (λ (e : Exclusion). Contains c.args.problem.now.exclusions.items e) (λ i. record { first = l.2 i; second = l.3 i; distance = l.4 i }) l.1))

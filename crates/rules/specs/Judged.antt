@@ -16,7 +16,7 @@ module _ (m : Meaning) (p : Model) (rows : Rows) (k : ℕ) where
 
   -- the place is broken in some frame, and here is that frame
   abbrev pub Breaks : Type 0
-  Breaks = (n : ℕ) × (¬ (KeptIn n))
+  Breaks = (n : ℕ) × ¬ (KeptIn n)
 
   -- what a judgement says
   abbrev pub Judged : Judgement → Type 0

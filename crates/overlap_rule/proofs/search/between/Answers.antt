@@ -22,28 +22,29 @@ loop-first-preserved c = below_more _ _ c.loop-first.invariant (λ y h. c.loop-s
 
 pub loop-distance-preserved : goal.loop-distance-preserved
 loop-distance-preserved c =
-    let next = next_distance _ c.loop-distance.invariant.0 (test_le _ _ c.loop-distance-test.true) in (
-      next.0,
-      next.1,
-      below_more_ℤ (λ (d : ℤ). (x : ℕ) → x < length c.args.a.now.parts.now → (y : ℕ) → y < length c.args.b.now.parts.now →
+    let next = next_distance _ c.loop-distance.invariant.low (test_le _ _ c.loop-distance-test.true) in
+    record {
+      low = next.0;
+      high = next.1;
+      clear = below_more_ℤ (λ (d : ℤ). (x : ℕ) → x < length c.args.a.now.parts.now → (y : ℕ) → y < length c.args.b.now.parts.now →
           Clear (model c.args.problem.now) c.args.i c.args.j (row_model c.args.a.now) (row_model c.args.b.now) d x y)
-          _ _ _ next.2 c.loop-distance.invariant.2 (λ x h. c.loop-first.invariant x (omega arith)),
-    )
+          _ _ _ next.2 c.loop-distance.invariant.clear (λ x h. c.loop-first.invariant x (omega arith));
+    }
 
 pub returns-after-loop-distance : goal.returns-after-loop-distance
 returns-after-loop-distance c =
     clear_apart (model c.args.problem.now) c.args.i c.args.j (row_model c.args.a.now) (row_model c.args.b.now) c.requires.a c.requires.b
-    (λ d low high x y hx hy. c.loop-distance.invariant.2 d low (below_last d _ high (test_gt _ _ c.loop-distance-test.false)) x hx y hy)
+    (λ d low high x y hx hy. c.loop-distance.invariant.clear d low (below_last d _ high (test_gt _ _ c.loop-distance-test.false)) x hx y hy)
 
 pub returns-then-not-never_both : goal.returns-then-not-never_both
 returns-then-not-never_both c =
     let wide : to_z w64 (of_z w64 c.from.result) ≡ c.from.result = omega (arith, ints) in
     rw (wide, c.from.ensures) (record {
-      low = c.loop-distance.invariant.0;
+      low = c.loop-distance.invariant.low;
       high = test_le _ _ c.loop-distance-test.true;
       first = c.loop-first-test.true;
       second = c.loop-second-test.true;
       shared = λ n m e. (c.share_tick.ensures n m e).0 c.if-share_tick.true;
       unexcused = λ n m e. not_from_Decides c.never_both.result (c.never_both.ensures n m e) c.if-not-never_both.true;
-      before = earlier_clear (model c.args.problem.now) c.args.i c.args.j (row_model c.args.a.now) (row_model c.args.b.now) _ c.loop-distance.invariant.2 c.loop-first.invariant c.loop-second.invariant;
+      before = earlier_clear (model c.args.problem.now) c.args.i c.args.j (row_model c.args.a.now) (row_model c.args.b.now) _ c.loop-distance.invariant.clear c.loop-first.invariant c.loop-second.invariant;
     })

@@ -22,7 +22,7 @@ pub record Encodes (m : Model) (file : List ℕ) : Type 0 where
 -- a file opens exactly when it is the file of some problem within the limits, and of that problem
 abbrev pub OpensEncodings : List ℕ → Result Problem OpenError → Type 0
 OpensEncodings file (Ok p) = Encodes (model p) file × ((m : Model) → Encodes m file → m ≡ model p)
-OpensEncodings file (Err (Refused fault)) = (m : Model) → Encodes m file → ⊥
+OpensEncodings file (Err (Refused fault)) = (m : Model) → ¬ (Encodes m file)
 OpensEncodings file (Err (Memory error)) = (m : Model) × Encodes m file
 
 -- a problem that is given holds exactly what the reader shows

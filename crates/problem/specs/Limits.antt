@@ -1,4 +1,4 @@
-use Rattle.std.specs.Prelude.{◌≡◌, ℕ, ◌*◌, ◌<◌, ◌≤◌, List, length, Some, None, Option, slice_index, slice_index_or}
+use Rattle.std.specs.Prelude.{◌≡◌, ℕ, ◌*◌, ◌<◌, ◌≤◌, List, length, Some, None, Option, slice_index, slice_index_or, ◌≢◌}
 use Rattle.std.specs.List.{AllByRecursion}
 use Rattle.problem.specs.declared.dependency.Dependency.{Dependency}
 use Rattle.problem.specs.declared.dimensions.Dimensions.{Dimensions}
@@ -59,7 +59,7 @@ pub record DependencyFits (d : Dimensions) (x : Dependency) : Type 0 where
 pub record ExclusionFits (d : Dimensions) (x : Exclusion) : Type 0 where
   pub first : x.first < d.tasks
   pub second : x.second < d.tasks
-  pub two : x.first ≡ x.second → ⊥
+  pub two : x.first ≢ x.second
   pub distance : x.distance ≤ 3
 
 -- window `w` may stand after `v`: processors do not fall, and on one processor a window begins where the one before has ended

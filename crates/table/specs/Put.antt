@@ -21,7 +21,7 @@ without rows t = slice_set rows t None
 -- why a row may not be put in: the problem has no such task, or it has and the row has not lawful shape
 abbrev pub Refused : Model → ℕ → RowModel → PutFault → Type 0
 Refused p t row UnknownTask = p.dimensions.tasks ≤ t
-Refused p t row UnlawfulShape = (t < p.dimensions.tasks) × (LawfulShape p.dimensions row → ⊥)
+Refused p t row UnlawfulShape = (t < p.dimensions.tasks) × ¬ (LawfulShape p.dimensions row)
 
 -- what putting a row in answers and leaves: it is put in where it may be, and else refused and nothing changes
 abbrev pub Puts : Model → Rows → ℕ → RowModel → Result (Unit {0}) PutFault → Rows → Type 0

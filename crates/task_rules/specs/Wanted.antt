@@ -1,4 +1,4 @@
-use Rattle.std.specs.Prelude.{◌≡◌, ℕ, ◌-◌, ◌≤◌, true, List, length, Some}
+use Rattle.std.specs.Prelude.{◌≡◌, ℕ, ◌-◌, ◌≤◌, true, List, length, Some, ◌≢◌}
 use Rattle.std.specs.List.{sum_by}
 use Rattle.problem.specs.declared.task.Task.{Task}
 use Rattle.problem.specs.Lookup.{duration_on}
@@ -11,7 +11,7 @@ ticks_of parts = sum_by (λ part. part.end - part.begin) parts
 
 -- allocation: the duration on the row's processor is not 0
 abbrev pub Allocated : Task → RowModel → Type 0
-Allocated task row = duration_on task row.processor ≡ 0 → ⊥
+Allocated task row = duration_on task row.processor ≢ 0
 
 -- duration: the lengths of the row's parts add up to at least that duration
 abbrev pub LongEnough : Task → RowModel → Type 0

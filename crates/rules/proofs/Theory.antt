@@ -1,10 +1,13 @@
 -- What the laws give: a change of some rows leaves the places that do not name their tasks kept, and every part of a lawful table is lawful.
-use Rattle.std.proofs.Common.{◌≡◌, ℕ, ◌<◌, ◌≤◌, ◌⊎◌, List, [], ◌∷◌, Some, None, Option, All, Contains, IfNone, sym, ◌∙◌, subst, inl, inr, arith}
+use Rattle.std.proofs.Common.{◌≡◌, ℕ, ◌<◌, ◌≤◌, ◌⊎◌, List, [], ◌∷◌, Some, None, Option, All, Contains, IfNone, sym, refl, ◌∙◌, subst, inl, inr, arith}
 use Rattle.std.proofs.lemmas.List.Elements.{All-cons, All-contains, All-nil}
+use Rattle.std.proofs.lemmas.List.{length-set}
 use Rattle.std.specs.Option.{MatchOption}
 use Rattle.problem.specs.Limits.{Model}
+use Rattle.table.specs.Put.{without}
 use Rattle.table.specs.Rows.{Rows, row_at, Agree}
 use Rattle.table.specs.Shape.{Shaped}
+use Rattle.table.proofs.Shapes.{set_at}
 use Rattle.rules.specs.Judged.{Keeps, Breaks}
 use Rattle.rules.specs.Lawful.{Lawful, PartOf, DifferAt}
 use Rattle.rules.specs.Meaning.{Meaning, Reach, Absence, Names, tasks_of}
@@ -22,6 +25,13 @@ missing_or_same part whole of (t ∷ ts) =
         | inr all ↦ inr (All-cons (Agree whole part) t ts (sym same) all)
       ]
     ]
+
+-- a table with a row taken out is part of it
+pub without_part : (rows : Rows) (t : ℕ) → PartOf (without rows t) rows
+without_part rows t = record {
+  places = length-set rows t None;
+  rows = λ u. elim (set_at rows t u None None (row_at (without rows t) u) refl) [ inl h ↦ inl (sym h) | inr h ↦ inr (sym h) ];
+}
 
 module _ (m : Meaning) (p : Model) where
   -- a part of a table of lawful shape has lawful shape

@@ -150,3 +150,25 @@ fn run(rt: &HostRuntime) -> anyhow::Result<()> {
 fn main(rt: HostRuntime) -> anyhow::Result<()> {
     run(&rt)
 }
+
+#[cfg(test)]
+mod tests {
+    use super::*;
+    use published::book::PUBLISHED;
+    use rules::search::first_broken;
+    use std::test::Fail;
+
+    /// The published book is seven pairs deep already, and buyers pile on it.
+    #[test]
+    fn a_pile_may_be_eleven_levels_deep(rt: HostRuntime) -> Result<(), Fail> {
+        // B has no duration on processor 1.
+        let rows: &[Entry] = &[(1, 1, &[(80, 100), (140, 170)])];
+        let table = building::table(rt.alloc(), problems::WORKED, None, rows)?;
+        let book = Waiver::new(Waiver::new(Waiver::new(Waiver::new(PUBLISHED))));
+        assert_eq!(rt;
+            table.and_then(|table| first_broken(&book, &table)),
+            Some(1)
+        );
+        Ok(())
+    }
+}

@@ -1,11 +1,18 @@
-ghost use Rattle.std.specs.Prelude.{◌≡◌};
 ghost use Rattle.problem.specs.Model.{model};
+ghost use Rattle.rules.specs.Laws.{each_absence, each_reach};
+ghost use Rattle.std.specs.Prelude.{◌≡◌};
 ghost use Rattle.window_rule.specs.Tests.{served};
-ghost use Rattle.window_rule.specs.Windows.{InWindows};
+ghost use Rattle.window_rule.specs.Windows.{InWindows, window_rule};
 
+use problem::problem::Problem;
+use rules::each_task;
+use rules::judgement::Judgement;
+use rules::label::Label;
+use rules::rule::Rule;
 use rules::task_rule::TaskRule;
 use table::part::Part;
 use table::placed::Placed;
+use table::table::Table;
 
 /// Rule 4. Each part of a row lies inside one window of its task's partition on its processor, repeated each frame.
 #[derive(Clone, Copy)]
@@ -35,5 +42,29 @@ impl TaskRule for Windows {
 
     fn wants(&self, placed: &Placed<'_>) -> bool {
         placed.row.parts.iter().all(|part| is_served(placed, part))
+    }
+}
+
+impl Rule for Windows {
+    ghost meaning = { λ _. window_rule };
+
+    ghost reach = { λ _. each_reach 4 InWindows };
+
+    ghost absence = { λ _. each_absence 4 InWindows };
+
+    fn count(&self, problem: &Problem) -> u32 {
+        each_task::count(problem)
+    }
+
+    fn label(&self, problem: &Problem, place: u32) -> Label {
+        each_task::label(Self::NUMBER, problem, place)
+    }
+
+    fn tasks(&self, problem: &Problem, place: u32) -> [u32; 2] {
+        each_task::tasks(problem, place)
+    }
+
+    fn judge(&self, table: &Table, place: u32) -> Judgement {
+        each_task::judge(self, table, place)
     }
 }

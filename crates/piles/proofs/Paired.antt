@@ -10,13 +10,7 @@ use Rattle.rules.specs.Meaning.{Meaning}
 use Rattle.piles.specs.declared.pair.Side.{Side}
 use Rattle.piles.specs.declared.pair.Side.TheVariants.{First, Second}
 use Rattle.piles.specs.Pair.{SideOf, paired}
-
--- two places that are kept in the same frames are judged alike
-judged_alike : (m w : Meaning) (p : Model) (rows : Rows) (j k : ℕ) →
-    ((n : ℕ) → KeptIn m p rows j n → KeptIn w p rows k n) → ((n : ℕ) → KeptIn w p rows k n → KeptIn m p rows j n) →
-    (r : Judgement) → Judged m p rows j r → Judged w p rows k r
-judged_alike m w p rows j k to from Kept keeps = λ n. to n (keeps n)
-judged_alike m w p rows j k to from Broken breaks = (breaks.0, λ kept. breaks.1 (from breaks.0 kept))
+use Rattle.piles.proofs.Alike.{judged_alike}
 
 module _ (a b : Meaning) (p : Model) (rows : Rows) where
   -- what a judgement of the place of the first rule or of the second says

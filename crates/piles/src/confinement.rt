@@ -3,6 +3,7 @@ ghost use Rattle.piles.specs.Confinement.{Inside as IsInside};
 use crate::scope::Scope;
 use crate::scoped::Scoped;
 use problem::problem::Problem;
+use rules::rule::Rule;
 
 /// A rule that counts inside one partition only.
 pub type Confinement<R> = Scoped<R, Inside>;
@@ -16,7 +17,8 @@ pub struct Inside {
 impl Scope for Inside {
     ghost Covers = { λ s. IsInside s.partition };
 
-    fn covers(&self, problem: &Problem, _place: u32, tasks: &[u32; 2]) -> bool {
+    fn covers<R: Rule>(&self, rule: &R, problem: &Problem, place: u32) -> bool {
+        let tasks = rule.tasks(problem, place);
         tasks.iter().all(|number| {
             problem
                 .task(*number)

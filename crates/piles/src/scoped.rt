@@ -35,8 +35,7 @@ impl<R: Rule, S: Scope> Rule for Scoped<R, S> {
     }
 
     fn judge(&self, table: &Table, place: u32) -> Judgement {
-        let tasks = self.rule.tasks(&table.problem, place);
-        if self.scope.covers(&table.problem, place, &tasks) {
+        if self.scope.covers(&self.rule, &table.problem, place) {
             self.rule.judge(table, place)
         } else {
             Judgement::Kept

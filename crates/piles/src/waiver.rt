@@ -8,6 +8,7 @@ use crate::scoped::Scoped;
 use crate::unlisted::Unlisted;
 use arrayvec::ArrayVec;
 use problem::problem::Problem;
+use rules::rule::Rule;
 
 /// A rule of which up to 16 places are waived.
 pub type Waiver<R> = Scoped<R, Unlisted>;
@@ -24,7 +25,7 @@ impl Unlisted {
 impl Scope for Unlisted {
     ghost Covers = { λ s. NotListed s.places.items };
 
-    fn covers(&self, _problem: &Problem, place: u32, _tasks: &[u32; 2]) -> bool {
+    fn covers<R: Rule>(&self, _rule: &R, _problem: &Problem, place: u32) -> bool {
         !self.lists(place)
     }
 }

@@ -53,10 +53,10 @@ impl Header {
     pub fn read(file: &[u8]) -> Result<Header, FileFault>
         ensures { MatchResult result (λ header. header_of file.now ≡ Ok header.counts) (λ fault. header_of file.now ≡ Err fault) }
     {
-        let words = words::first::<12>(file).ok_or(FileFault::Kind)?;
-        if words[0] != 1 {
+        if words::read(file, 0) != Some(1) {
             return Err(FileFault::Kind);
         }
+        let words = words::first::<12>(file).ok_or(FileFault::Kind)?;
         let counts = stated_counts(&words);
         if !counts.fit() {
             return Err(FileFault::Count);

@@ -68,6 +68,7 @@ impl Table {
     }
 
     /// Takes a task's row out, if it has one.
+    #[tactic(auto, using(crate::proofs::Slots::slots_set))]
     pub fn remove(&mut self, task: u32)
         ensures rows { rows_of self.new ≡ without (rows_of self.old) task }
         ensures problem { self.new.problem ≡ self.old.problem }

@@ -1,5 +1,6 @@
 use Rattle.std.specs.Prelude.{ℕ, false, if◌then◌else◌, [], ◌∷◌, length, Some, None, Option, nat_lt, slice_index, slice_index_or}
 use Rattle.problem.specs.declared.dependency.Dependency.{Dependency}
+use Rattle.problem.specs.declared.exclusion.Exclusion.{Exclusion}
 use Rattle.problem.specs.declared.task.Task.{Task}
 use Rattle.problem.specs.declared.window.Window.{Window}
 use Rattle.problem.specs.Limits.{Model}
@@ -15,6 +16,10 @@ no_window = record { processor = 0; partition = 0; begin = 0; end = 0 }
 -- stands for no dependency where a problem has none
 abbrev pub no_dependency : Dependency
 no_dependency = record { source = 0; destination = 0; depth = 0; transfer = 0 }
+
+-- stands for no exclusion where a problem has none
+abbrev pub no_exclusion : Exclusion
+no_exclusion = record { first = 0; second = 0; distance = 0 }
 
 -- task `t` of the problem
 abbrev pub task_at : Model → ℕ → Task

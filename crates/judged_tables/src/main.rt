@@ -3,6 +3,8 @@
 
 mod building;
 mod cases;
+#[cfg(test)]
+mod on_processor_0;
 mod outcome;
 mod problems;
 
@@ -154,9 +156,87 @@ fn main(rt: HostRuntime) -> anyhow::Result<()> {
 #[cfg(test)]
 mod tests {
     use super::*;
+    use on_processor_0::OnProcessor0;
     use published::book::PUBLISHED;
+    use rules::judgement::Judgement;
     use rules::search::first_broken;
+    use rules::task_rule::{EachTask, EachTaskRef};
     use std::test::Fail;
+
+    /// What a rule answers of the worked example's four tasks. Place 4 is past the count.
+    #[derive(Clone, Copy, PartialEq, Eq, Debug)]
+    struct Answers {
+        count: u32,
+        label_of_1: Label,
+        label_of_4: Label,
+        tasks_of_1: [u32; 2],
+        tasks_of_4: [u32; 2],
+        /// Of places 0, 1, 2 and 4.
+        judged: [Judgement; 4],
+    }
+
+    /// A is on processor 0, B on processor 1, and C and D have no row.
+    const ROWS: &[Entry] = &[(0, 0, &[(0, 20)]), (1, 1, &[(80, 100), (140, 170)])];
+
+    /// What a rule answers on these rows.
+    fn asked<R: Rule>(rt: &HostRuntime, rule: &R) -> anyhow::Result<Option<Answers>> {
+        let table = building::table(rt.alloc(), problems::WORKED, None, ROWS)?;
+        Ok(table.map(|table| Answers {
+            count: rule.count(&table.problem),
+            label_of_1: rule.label(&table.problem, 1),
+            label_of_4: rule.label(&table.problem, 4),
+            tasks_of_1: rule.tasks(&table.problem, 1),
+            tasks_of_4: rule.tasks(&table.problem, 4),
+            judged: [0, 1, 2, 4].map(|place| rule.judge(&table, place)),
+        }))
+    }
+
+    /// What the rule answers that wants every row on processor 0.
+    const ON_PROCESSOR_0: Answers = Answers {
+        count: 4,
+        label_of_1: Label {
+            rule: 101,
+            place: 1,
+        },
+        label_of_4: Label { rule: 0, place: 4 },
+        tasks_of_1: [1, 1],
+        tasks_of_4: [0, 0],
+        judged: [
+            Judgement::Kept,
+            Judgement::Broken,
+            Judgement::Kept,
+            Judgement::Kept,
+        ],
+    };
+
+    #[test]
+    fn an_owned_task_rule_is_a_rule(rt: HostRuntime) -> Result<(), Fail> {
+        let said = asked(&rt, &EachTask(OnProcessor0))?;
+        assert_eq!(rt; said, Some(ON_PROCESSOR_0));
+        Ok(())
+    }
+
+    #[test]
+    fn a_lent_task_rule_is_a_rule(rt: HostRuntime) -> Result<(), Fail> {
+        let said = asked(&rt, &EachTaskRef(&OnProcessor0))?;
+        assert_eq!(rt; said, Some(ON_PROCESSOR_0));
+        Ok(())
+    }
+
+    #[test]
+    fn task_rules_stand_in_piles(rt: HostRuntime) -> Result<(), Fail> {
+        let table = building::table(rt.alloc(), problems::WORKED, None, ROWS)?;
+        let book = Pair {
+            first: Dependencies,
+            second: EachTask(OnProcessor0),
+        };
+        // Places 0 and 1 are those of the two dependencies, and place 3 is B's.
+        assert_eq!(rt;
+            table.and_then(|table| first_broken(&book, &table)),
+            Some(3)
+        );
+        Ok(())
+    }
 
     /// The published book is seven pairs deep already, and buyers pile on it.
     #[test]
